@@ -1,0 +1,35 @@
+-- Tests and lists: what the kit's libraries lack and every crate's laws use.
+-- Assumes nothing.
+use mathlib.Core.Path.{_≡_, refl}
+use Prim.Native.Nat.{ℕ, zero, suc, _+_}
+use mathlib.Core.Bool.{Bool, true, false, _&&_, and-eq-true-iff}
+use mathlib.Core.List.{List, [], _∷_}
+use lib.ListN.{drop}
+use native.Mathlib.Omega.{arith}
+
+-- a test's two answers, each with its equation
+pub split {ℓ} : {X : Type ℓ} (b : Bool) → (b ≡ true → X) → (b ≡ false → X) → X
+split true f g = f refl
+split false f g = g refl
+
+-- both halves of a test
+pub both : (a b : Bool) → a && b ≡ true → (a ≡ true) × (b ≡ true)
+both a b = and-eq-true-iff a b .0
+
+-- induction on a list, from what holds of every end of its tail
+pub by-ends {ℓ} : {A : Type 0} (P : List A → Type ℓ) → P [] → ((x : A) (xs : List A) → ((k : ℕ) → P (drop k xs)) → P (x ∷ xs)) → (xs : List A) → P xs
+by-ends {A = A} P nil cons xs = go xs zero
+  where
+    go : (xs : List A) (k : ℕ) → P (drop k xs)
+    go [] zero = nil
+    go [] (suc k) = nil
+    go (x ∷ xs) zero = cons x xs (go xs)
+    go (x ∷ xs) (suc k) = go xs k
+
+-- each of a list
+abbrev pub All : {A : Type 0} → (A → Type 0) → List A → Type 0
+All P [] = Unit {0}
+All P (a ∷ l) = P a × All P l
+
+pub add-swap : (i n : ℕ) → suc i + n ≡ i + suc n
+add-swap i n = omega arith

@@ -1,0 +1,4 @@
+pub mod Cases
+pub mod Dividing
+pub mod Streaming
+pub mod Tallying

@@ -1,0 +1,6 @@
+pub mod Reader
+pub mod Stream
+pub mod Tally
+pub mod Place
+pub mod Index
+pub mod Table

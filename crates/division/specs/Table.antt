@@ -1,0 +1,44 @@
+-- Readers by a table of well-formed sequences, as the Unicode Standard's table 3-7: a row has a range for each element.
+-- Assumes nothing.
+use Prim.Native.Nat.{ℕ, zero, suc}
+use mathlib.Core.Bool.{Bool, true, false, cond, _&&_}
+use mathlib.Core.List.{List, [], _∷_}
+use lib.Dec.{leb}
+use Rattle.division.specs.Reader.{Look, Reader}
+
+-- the numbers from a first to a last
+infix 80 _to_
+pub data Range : Type 0 where
+  _to_ : ℕ → ℕ → Range
+
+abbrev pub within : Range → ℕ → Bool
+within (low to high) x = leb low x && leb x high
+
+-- a row: the range of the first element, and those of the later ones
+pub record Row : Type 0 where
+  pub lead : Range
+  pub later : List Range
+
+-- what a segment is
+pub data Kind : Type 0 where
+  whole damage : Kind
+
+abbrev pub isDamage : Kind → Bool
+isDamage whole = false
+isDamage damage = true
+
+-- one element more
+abbrev pub longer : {K : Type 0} → Look K → Look K
+longer l = record { more = suc (l .more); tag = l .tag; sure = l .sure }
+
+-- A sequence that is begun and wants an element of each of these ranges: it is whole once it has them; damage, if another
+-- element stops it; and damage that is not sure, if the text ends first.
+abbrev pub want : List Range → List ℕ → Look Kind
+want [] xs = record { more = zero; tag = whole; sure = true }
+want (r ∷ rs) [] = record { more = zero; tag = damage; sure = false }
+want (r ∷ rs) (x ∷ xs) = cond (within r x) (longer (want rs xs)) (record { more = zero; tag = damage; sure = true })
+
+-- The reader of a table: the row that the first element begins; if there is none, that element alone is damage.
+abbrev pub read : List Row → Reader Kind
+read [] x xs = record { more = zero; tag = damage; sure = true }
+read (w ∷ ws) x xs = cond (within (w .lead) x) (want (w .later) xs) (read ws x xs)
