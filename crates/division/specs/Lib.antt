@@ -4,3 +4,4 @@ pub mod Tally
 pub mod Place
 pub mod Index
 pub mod Table
+pub mod Sequence

@@ -7,12 +7,16 @@ use lib.Dec.{leb}
 use Rattle.division.specs.Reader.{Look, Reader}
 
 -- the numbers from a first to a last
+pub record Range : Type 0 where
+  pub low : ℕ
+  pub high : ℕ
+
 infix 80 _to_
-pub data Range : Type 0 where
-  _to_ : ℕ → ℕ → Range
+abbrev pub _to_ : ℕ → ℕ → Range
+low to high = record { low = low; high = high }
 
 abbrev pub within : Range → ℕ → Bool
-within (low to high) x = leb low x && leb x high
+within r x = leb (r .low) x && leb x (r .high)
 
 -- a row: the range of the first element, and those of the later ones
 pub record Row : Type 0 where

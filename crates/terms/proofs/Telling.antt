@@ -1,0 +1,76 @@
+-- What is told loses nothing: two answers that tell the same are equal, since each can be read back from its numbers.
+-- Assumes nothing.
+use mathlib.Core.Path.{_≡_, refl, sym, ap, _∙_}
+use Prim.Native.Nat.{ℕ}
+use mathlib.Core.Bool.{cond}
+use mathlib.Core.List.{List}
+use lib.ListN.{length, getD}
+use lib.Dec.{eqb}
+use Rattle.terms.specs.Told.{refusal, first, checked}
+use Rattle.terms.specs.declared.First.{First}
+use Rattle.terms.specs.declared.First.the-variants.{Nothing, Whole, Damage, Begun}
+use Rattle.terms.specs.declared.Refusal.{Refusal}
+use Rattle.terms.specs.declared.Refusal.the-variants.{Damaged, OverLimit, NoRoom, PastEnd, Inside, Unusable, ListRoom, BadState, NoScalar}
+use Rattle.terms.specs.declared.Checked.{Checked}
+use Rattle.terms.specs.declared.Checked.the-variants.{WellFormed, Refused}
+
+-- what can be read back is not lost
+pub by-back : {A : Type 0} (told : A → List ℕ) (back : List ℕ → A) → ((a : A) → back (told a) ≡ a) → (a b : A) → told a ≡ told b → a ≡ b
+by-back told back h a b e = sym (h a) ∙ ap back e ∙ h b
+
+backRefusal : List ℕ → Refusal
+backRefusal l =
+    let n = getD l 0 0 in
+    let v = getD l 1 0 in
+    cond (eqb n 1) (Damaged v (getD l 2 0)) (cond (eqb n 2) OverLimit (cond (eqb n 3) (NoRoom v) (cond (eqb n 4) PastEnd
+    (cond (eqb n 5) Inside (cond (eqb n 6) (Unusable v) (cond (eqb n 7) ListRoom (cond (eqb n 8) BadState (NoScalar v))))))))
+
+refusal-back : (a : Refusal) → backRefusal (refusal a) ≡ a
+unfolding backRefusal
+refusal-back (Damaged start length) = refl
+refusal-back OverLimit = refl
+refusal-back (NoRoom needed) = refl
+refusal-back PastEnd = refl
+refusal-back Inside = refl
+refusal-back (Unusable checkpoint) = refl
+refusal-back ListRoom = refl
+refusal-back BadState = refl
+refusal-back (NoScalar position) = refl
+
+pub told-refusal : (a b : Refusal) → refusal a ≡ refusal b → a ≡ b
+told-refusal = by-back refusal backRefusal refusal-back
+
+backFirst : List ℕ → First
+backFirst l =
+    let n = getD l 1 0 in
+    cond (eqb (length l) 0) Nothing (cond (eqb (getD l 2 0) 0) (Begun n) (cond (eqb (getD l 0 0) 0) (Whole n) (Damage n)))
+
+first-back : (a : First) → backFirst (first a) ≡ a
+unfolding backFirst
+first-back Nothing = refl
+first-back (Whole n) = refl
+first-back (Damage n) = refl
+first-back (Begun n) = refl
+
+pub told-first : (a b : First) → first a ≡ first b → a ≡ b
+told-first = by-back first backFirst first-back
+
+backChecked : List ℕ → Checked
+backChecked l = cond (eqb (getD l 0 0) 0) WellFormed (Refused (backRefusal l))
+
+-- a refusal's number is not 0, so that it is no well-formed answer
+checked-back : (a : Checked) → backChecked (checked a) ≡ a
+unfolding backChecked backRefusal
+checked-back WellFormed = refl
+checked-back (Refused (Damaged start length)) = refl
+checked-back (Refused OverLimit) = refl
+checked-back (Refused (NoRoom needed)) = refl
+checked-back (Refused PastEnd) = refl
+checked-back (Refused Inside) = refl
+checked-back (Refused (Unusable checkpoint)) = refl
+checked-back (Refused ListRoom) = refl
+checked-back (Refused BadState) = refl
+checked-back (Refused (NoScalar position)) = refl
+
+pub told-checked : (a b : Checked) → checked a ≡ checked b → a ≡ b
+told-checked = by-back checked backChecked checked-back

@@ -1,0 +1,135 @@
+-- A walk over a text's segments: what the segment reader told at a place, and the strict check's way, over any division.
+-- Assumes nothing.
+use mathlib.Core.Path.{_≡_, refl, sym, ap, _∙_}
+use Prim.Native.Nat.{ℕ, suc, _+_, _-_, _≤_, _<_}
+use mathlib.Core.Bool.{Bool, true, false}
+use mathlib.Core.List.{List, [], _∷_}
+use lib.ListN.{length, take, drop, length-drop}
+use lib.Seq.{take-all, drop-drop}
+use borrow.Author.Tests.{lt-ltb, le-ltb}
+use native.Mathlib.Omega.{arith}
+use Rattle.division.specs.Reader.{Reader, Segment, body, cut}
+use Rattle.division.specs.Reader as reader
+use Rattle.division.specs.Table.{Kind, whole, damage, isDamage}
+use Rattle.division.specs.Tally.{size, entries}
+use Rattle.division.proofs.Dividing.{Division, first-size, cut-nil, cut-cons}
+use Rattle.terms.specs.Limits.{limit}
+use Rattle.terms.specs.Told.{first, bit, firstSays}
+use Rattle.terms.specs.Strict.{damages, strictly, limited}
+use Rattle.terms.specs.declared.First.{First}
+use Rattle.terms.specs.declared.First.the-variants.{Nothing, Whole, Damage, Begun}
+
+-- the text from a place on, as `&text[at..]` hands it over
+pub part-is : (text : List ℕ) (at : ℕ) → take (length text - at) (drop at text) ≡ drop at text
+part-is text at = take-all (length text - at) (drop at text) (omega (arith, length-drop at text))
+
+-- what was told of a text that is not empty, said of the look at it
+record Seen (look : Reader Kind) (text : List ℕ) (n : ℕ) (kind : Kind) (sure : Bool) : Type 0 where
+  head : ℕ
+  tail : List ℕ
+  text-is : text ≡ head ∷ tail
+  long-is : n ≡ suc (look head tail .more)
+  kind-is : look head tail .tag ≡ kind
+  sure-is : look head tail .sure ≡ sure
+
+kind-of : (k j : Kind) → bit (isDamage k) ≡ bit (isDamage j) → k ≡ j
+kind-of whole whole e = refl
+kind-of damage damage e = refl
+kind-of whole damage e = absurd (omega arith)
+kind-of damage whole e = absurd (omega arith)
+
+sure-of : (a b : Bool) → bit a ≡ bit b → a ≡ b
+sure-of true true e = refl
+sure-of false false e = refl
+sure-of true false e = absurd (omega arith)
+sure-of false true e = absurd (omega arith)
+
+seen : (look : Reader Kind) (text : List ℕ) (n : ℕ) (kind : Kind) (sure : Bool) → bit (isDamage kind) ∷ n ∷ bit sure ∷ [] ≡ firstSays look text → Seen look text n kind sure
+seen look [] n kind sure e = let z : _≡_ {A = ℕ} 0 1 = cc in absurd (omega arith)
+seen look (x ∷ xs) n kind sure e = record {
+  head = x;
+  tail = xs;
+  text-is = refl;
+  long-is = cc;
+  kind-is = kind-of (look x xs .tag) kind (cc);
+  sure-is = sure-of (look x xs .sure) sure (cc);
+}
+
+-- A TURN OF A WALK that has come to a place: the segment there has n elements, and the walk goes on behind it
+pub record Turn (look : Reader Kind) (text : List ℕ) (at n : ℕ) (kind : Kind) : Type 0 where
+  pub segment : Segment Kind
+  pub body-is : body segment ≡ take n (drop at text)
+  pub size-is : size segment ≡ n
+  pub kind-is : segment .tag ≡ kind
+  pub some : 0 < n
+  pub inside : at + n ≤ length text
+  pub cuts : cut look (drop at text) ≡ segment ∷ cut look (drop (at + n) text)
+
+module _ {look : Reader Kind} (D : Division look) (text : List ℕ) (at : ℕ) (in-text : at ≤ length text) where
+  -- what was told of the text from the place on
+  abbrev pub Tells : First → Type 0
+  Tells r = first r ≡ firstSays look (take (length text - at) (drop at text))
+
+  told-there : (r : First) → Tells r → first r ≡ firstSays look (drop at text)
+  told-there r e = rw part-is at e
+
+  turn-of : (n : ℕ) (kind : Kind) (sure : Bool) → Seen look (drop at text) n kind sure → Turn look text at n kind
+  turn-of n kind sure s =
+      let x = s .head in
+      let xs = s .tail in
+      let m = look x xs .more in
+      let l : length (drop at text) ≡ suc (length xs) = ap length (s .text-is) in
+      let f : m ≤ length xs = D .fits x xs in
+      let e : n ≡ suc m = s .long-is in
+      record {
+        segment = reader.first look x xs;
+        body-is = rw (s .text-is, e);
+        size-is = omega (arith, first-size D x xs);
+        kind-is = s .kind-is;
+        some = omega arith;
+        inside = omega (arith, length-drop at text);
+        cuts = rw (← drop-drop n at text, s .text-is, e) (cut-cons look x xs);
+      }
+
+  pub turn-whole : (n : ℕ) → Tells (Whole n) → Turn look text at n whole
+  turn-whole n e = turn-of n whole true (seen look (drop at text) n whole true (told-there (Whole n) e))
+
+  pub turn-damage : (n : ℕ) → Tells (Damage n) → Turn look text at n damage
+  turn-damage n e = turn-of n damage true (seen look (drop at text) n damage true (told-there (Damage n) e))
+
+  pub turn-begun : (n : ℕ) → Tells (Begun n) → Turn look text at n damage
+  turn-begun n e = turn-of n damage false (seen look (drop at text) n damage false (told-there (Begun n) e))
+
+  -- where nothing was told the walk has come to the end
+  pub turn-end : Tells Nothing → drop at text ≡ []
+  turn-end e = go (drop at text) (told-there Nothing e)
+    where
+      go : (t : List ℕ) → first Nothing ≡ firstSays look t → t ≡ []
+      go [] q = refl
+      go (x ∷ xs) q = let z : _≡_ {A = ℕ} 0 1 = cc in absurd (omega arith)
+
+-- ---- the strict check: up to the place that the walk has come to there is no damage
+
+pub record Clean (look : Reader Kind) (text : List ℕ) (at : ℕ) : Type 0 where
+  pub inside : at ≤ length text
+  pub same : damages look text ≡ entries isDamage at (cut look (drop at text))
+
+pub clean-start : (look : Reader Kind) (text : List ℕ) → Clean look text 0
+clean-start look text = record { inside = omega arith; same = refl }
+
+module _ {look : Reader Kind} (text : List ℕ) (at : ℕ) (c : Clean look text at) where
+  pub clean-end : drop at text ≡ [] → damages look text ≡ []
+  clean-end e = c .same ∙ rw (e, cut-nil)
+
+  pub clean-whole : (n : ℕ) → Turn look text at n whole → Clean look text (at + n)
+  clean-whole n t = record { inside = t .inside; same = c .same ∙ rw (t .cuts, t .kind-is, t .size-is) }
+
+  pub clean-damage : (n : ℕ) → Turn look text at n damage → (granted : List ℕ) → strictly (damages look text) granted ≡ 1 ∷ at ∷ n ∷ []
+  clean-damage n t granted = rw (c .same, t .cuts, t .kind-is, t .size-is)
+
+-- refusal 2 goes before
+pub over : (text granted : List ℕ) → limit < length text → limited text granted ≡ 2 ∷ []
+over text granted h = rw (lt-ltb limit (length text) h)
+
+pub not-over : (text granted : List ℕ) → length text ≤ limit → limited text granted ≡ granted
+not-over text granted h = rw (le-ltb limit (length text) h)

@@ -1,0 +1,28 @@
+-- Strict reading: the first damage is refused.
+-- Assumes nothing.
+use Prim.Native.Nat.{ℕ}
+use mathlib.Core.Bool.{cond}
+use mathlib.Core.List.{List, [], _∷_}
+use lib.ListN.{length}
+use lib.Dec.{ltb}
+use Rattle.division.specs.Reader.{Reader, cut}
+use Rattle.division.specs.Table.{Kind, isDamage}
+use Rattle.division.specs.Tally.{Entry, entries}
+use Rattle.terms.specs.Limits.{limit}
+
+-- the damage entries of a text
+abbrev pub damages : Reader Kind → List ℕ → List (Entry Kind)
+damages look text = entries isDamage 0 (cut look text)
+
+-- refusal 1 with the start and the length of the first of them, or what is granted if there is none
+abbrev pub strictly : List (Entry Kind) → List ℕ → List ℕ
+strictly [] granted = granted
+strictly (e ∷ es) granted = 1 ∷ e .start ∷ e .long ∷ []
+
+-- refusal 2 where a text is over the limit
+abbrev pub limited : List ℕ → List ℕ → List ℕ
+limited text granted = cond (ltb limit (length text)) (2 ∷ []) granted
+
+-- THE STRICT CHECK: refusal 2, then 1, or well-formed
+abbrev pub checkSays : Reader Kind → List ℕ → List ℕ
+checkSays look text = limited text (strictly (damages look text) (0 ∷ []))

@@ -1,0 +1,45 @@
+-- What each answer tells, in the paper's numbers: the refusal's number and its values, or 0 and the values of what was granted.
+-- Assumes nothing.
+use Prim.Native.Nat.{ℕ, suc}
+use mathlib.Core.Bool.{Bool, cond}
+use mathlib.Core.List.{List, [], _∷_}
+use Rattle.division.specs.Reader.{Reader}
+use Rattle.division.specs.Table.{Kind, isDamage}
+use Rattle.terms.specs.declared.First.{First}
+use Rattle.terms.specs.declared.First.the-variants.{Nothing, Whole, Damage, Begun}
+use Rattle.terms.specs.declared.Refusal.{Refusal}
+use Rattle.terms.specs.declared.Refusal.the-variants.{Damaged, OverLimit, NoRoom, PastEnd, Inside, Unusable, ListRoom, BadState, NoScalar}
+use Rattle.terms.specs.declared.Checked.{Checked}
+use Rattle.terms.specs.declared.Checked.the-variants.{WellFormed, Refused}
+
+-- THE TABLE OF REFUSALS
+abbrev pub refusal : Refusal → List ℕ
+refusal (Damaged start length) = 1 ∷ start ∷ length ∷ []
+refusal OverLimit = 2 ∷ []
+refusal (NoRoom needed) = 3 ∷ needed ∷ []
+refusal PastEnd = 4 ∷ []
+refusal Inside = 5 ∷ []
+refusal (Unusable checkpoint) = 6 ∷ checkpoint ∷ []
+refusal ListRoom = 7 ∷ []
+refusal BadState = 8 ∷ []
+refusal (NoScalar position) = 9 ∷ position ∷ []
+
+-- what stands first: 0 for whole and 1 for damage, the number of elements, and 1 if that is sure, whatever follows
+abbrev pub first : First → List ℕ
+first Nothing = []
+first (Whole n) = 0 ∷ n ∷ 1 ∷ []
+first (Damage n) = 1 ∷ n ∷ 1 ∷ []
+first (Begun n) = 1 ∷ n ∷ 0 ∷ []
+
+abbrev pub checked : Checked → List ℕ
+checked WellFormed = 0 ∷ []
+checked (Refused r) = refusal r
+
+-- a test as a number
+abbrev pub bit : Bool → ℕ
+bit b = cond b 1 0
+
+-- WHAT THE SEGMENT READER TELLS of a text
+abbrev pub firstSays : Reader Kind → List ℕ → List ℕ
+firstSays look [] = []
+firstSays look (x ∷ xs) = bit (isDamage (look x xs .tag)) ∷ suc (look x xs .more) ∷ bit (look x xs .sure) ∷ []

@@ -1,0 +1,39 @@
+// The terms in which every call answers: the limits, what stands first in a text, and the refusals by their numbers.
+
+// The decoder of a text that comes in pieces. The limits belong to it.
+pub struct Decoder {}
+
+impl Decoder {
+    // The most bytes, units or code points that a text has.
+    pub const LIMIT: usize = 16_777_216;
+    // The most entries that a damage list has room for.
+    pub const ROOM: usize = 4_096;
+}
+
+// What stands first in a text: nothing, as it is empty; a whole segment of so many elements; damage of so many; or damage
+// that ends the text and begins a well-formed sequence, so that more text could still make it whole.
+pub enum First {
+    Nothing,
+    Whole(usize),
+    Damage(usize),
+    Begun(usize),
+}
+
+// Why a call refuses, in the order of the numbers 1 to 9.
+pub enum Refusal {
+    Damaged { start: usize, length: usize },
+    OverLimit,
+    NoRoom { needed: usize },
+    PastEnd,
+    Inside,
+    Unusable { checkpoint: usize },
+    ListRoom,
+    BadState,
+    NoScalar { position: usize },
+}
+
+// The answer of a strict check.
+pub enum Checked {
+    WellFormed,
+    Refused(Refusal),
+}
