@@ -2,5 +2,9 @@ pub mod Cases
 pub mod Dividing
 pub mod Streaming
 pub mod Tallying
+pub mod Rows
+pub mod Placing
+pub mod Indexing
+pub mod Building
 pub mod Tabling
 pub mod Standing

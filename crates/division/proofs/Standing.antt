@@ -4,7 +4,7 @@ use mathlib.Core.Path.{_≡_, refl, sym, ap, ap₂, _∙_}
 use mathlib.Core.Logic.{_⊎_, inl, inr, ⊎-elim}
 use Prim.Native.Nat.{ℕ, zero, suc, _≤_, _<_, suc-le-suc}
 use native.Mathlib.Nat.{le-antisymm, le-of-suc-le-suc}
-use mathlib.Core.Bool.{true, false, cond, true≢false}
+use mathlib.Core.Bool.{Bool, true, false, cond, _&&_, true≢false}
 use mathlib.Core.List.{List, [], _∷_, _++_}
 use lib.ListN.{length, take, drop}
 use lib.Seq.{length-take-le}
@@ -13,11 +13,11 @@ use borrow.Author.Tests.{leb-true, le-leb}
 use native.Mathlib.Omega.{arith}
 use Rattle.division.specs.Reader.{Look, Segment, body, first, cut}
 use Rattle.division.specs.Tally.{size}
-use Rattle.division.specs.Table.{Range, within, Row, Kind, whole, damage, longer, want, read}
+use Rattle.division.specs.Table.{Range, within, Row, Kind, whole, damage, longer, want, lone, read}
 use Rattle.division.specs.Sequence.{Matches, Sequence, Whole, Begun, Longest, Damage, Stands, Divides}
-use Rattle.division.proofs.Cases.{split}
+use Rattle.division.proofs.Cases.{split, both}
 use Rattle.division.proofs.Dividing.{cut-nil, cut-cons, by-segments, first-size}
-use Rattle.division.proofs.Tabling.{in-range, in-yes, want-fits, lone, table-division}
+use Rattle.division.proofs.Tabling.{in-range, in-yes, want-fits, table-division}
 
 -- no range is empty
 abbrev Proper : List Range → Type 0
@@ -28,6 +28,27 @@ Proper (r ∷ rs) = (r .low ≤ r .high) × Proper rs
 abbrev pub Sound : ℕ → List Row → Type 0
 Sound low [] = Unit {0}
 Sound low (w ∷ ws) = (low ≤ w .lead .low) × (w .lead .low ≤ w .lead .high) × Proper (w .later) × Sound (suc (w .lead .high)) ws
+
+-- the same as a test, which computes at a table
+abbrev proper : List Range → Bool
+proper [] = true
+proper (r ∷ rs) = leb (r .low) (r .high) && proper rs
+
+abbrev pub sound : ℕ → List Row → Bool
+sound low [] = true
+sound low (w ∷ ws) = leb low (w .lead .low) && (proper (w .lead ∷ w .later) && sound (suc (w .lead .high)) ws)
+
+is-proper : (rs : List Range) → proper rs ≡ true → Proper rs
+is-proper [] t = tt
+is-proper (r ∷ rs) t = let b = both (leb (r .low) (r .high)) (proper rs) t in (leb-true _ _ (b .0), is-proper rs (b .1))
+
+pub is-sound : (low : ℕ) (rows : List Row) → sound low rows ≡ true → Sound low rows
+is-sound low [] t = tt
+is-sound low (w ∷ ws) t =
+    let a = both (leb low (w .lead .low)) (proper (w .lead ∷ w .later) && sound (suc (w .lead .high)) ws) t in
+    let b = both (proper (w .lead ∷ w .later)) (sound (suc (w .lead .high)) ws) (a .1) in
+    let p = is-proper (w .lead ∷ w .later) (b .0) in
+    (leb-true _ _ (a .0), p .0, p .1, is-sound (suc (w .lead .high)) ws (b .1))
 
 whole-no-damage : whole ≡ damage → ⊥
 whole-no-damage e = let z : _≡_ {A = ℕ} 0 1 = cc in omega arith
@@ -165,10 +186,13 @@ module _ (rows : List Row) (x : ℕ) (xs : List ℕ) where
 
     only-begun : (n : ℕ) (t : Kind) → Stands rows (x ∷ xs) n t → (n ≡ suc (want rs xs .more)) × (t ≡ want rs xs .tag)
     only-begun n whole h = let w = whole-read n h in (w .0, sym (w .1))
-    only-begun n damage h = (⊎-elim
-        (λ l. le-antisymm (begun-most n (l .begun)) (l .longest _ begun-read))
-        (λ o. absurd (o .1 _ begun-read))
-        (h .part), sym (is-damage (want rs xs .tag) refl))
+    only-begun n damage h = (
+      ⊎-elim
+          (λ l. le-antisymm (begun-most n (l .begun)) (l .longest _ begun-read))
+          (λ o. absurd (o .1 _ begun-read))
+          (h .part),
+      sym (is-damage (want rs xs .tag) refl),
+    )
       where
         is-damage : (t : Kind) → want rs xs .tag ≡ t → t ≡ damage
         is-damage whole e = absurd (h .none _ (stands-begun whole e))

@@ -5,13 +5,15 @@ use Prim.Native.Nat.{ℕ, zero, suc, _≤_, _<_, max, suc-le-suc}
 use native.Mathlib.Nat.{le-trans}
 use mathlib.Core.Bool.{Bool, true, false, _&&_, true≢false}
 use mathlib.Core.List.{List, [], _∷_, _++_}
-use lib.ListN.{length}
+use mathlib.Core.Option.{none, some}
+use lib.ListN.{length, drop, getD, drop-of-length-le}
+use lib.Seq.{drop-cons}
 use lib.Dec.{leb}
 use borrow.Author.Tests.{leb-true, le-leb, lt-leb}
 use native.Mathlib.Omega.{arith}
 use Rattle.division.specs.Reader.{Look}
-use Rattle.division.specs.Table.{Range, within, Row, Kind, whole, damage, isDamage, longer, want, read}
-use Rattle.division.proofs.Cases.{split, both}
+use Rattle.division.specs.Table.{Range, within, Row, Kind, damage, isDamage, longer, want, begun, lone, read}
+use Rattle.division.proofs.Cases.{split, both, All}
 use Rattle.division.proofs.Dividing.{Division, Holds}
 
 -- ---- an element and a range
@@ -72,9 +74,6 @@ want-whole (r ∷ rs) (x ∷ xs) s = split (within r x) (λ e. rw e (want-whole 
 
 -- ---- and the reader, from them
 
-abbrev pub lone : Look Kind
-lone = record { more = zero; tag = damage; sure = true }
-
 -- the most that a row wants behind its first element
 abbrev pub widest : List Row → ℕ
 widest [] = zero
@@ -126,3 +125,27 @@ module _ (rows : List Row) where
 
   pub table-whole : (x : ℕ) (xs : List ℕ) → isDamage (read rows x xs .tag) ≡ false → read rows x xs .sure ≡ true
   table-whole x xs = read-case (λ l. isDamage (l .tag) ≡ false → l .sure ≡ true) rows x xs (λ s. refl) (λ rs h. want-whole rs xs)
+
+-- ---- the row of an element: those in front of it have smaller leads, and those behind it greater ones
+
+pub begun-row : (pre : List Row) (w : Row) (post : List Row) (x : ℕ) → All (λ v. v .lead .high < x) pre → w .lead .low ≤ x → x ≤ w .lead .high
+    → begun (pre ++ w ∷ post) x ≡ some (w .later)
+begun-row [] w post x a l h = rw (in-yes (w .lead) x l h)
+begun-row (v ∷ pre) w post x a l h = rw (in-over (v .lead) x (a .0)) (begun-row pre w post x (a .1) l h)
+
+pub begun-none : (pre post : List Row) (x : ℕ) → All (λ v. v .lead .high < x) pre → All (λ v. x < v .lead .low) post → begun (pre ++ post) x ≡ none
+begun-none [] [] x a b = refl
+begun-none [] (v ∷ post) x a b = rw (in-under (v .lead) x (b .0)) (begun-none [] post x a (b .1))
+begun-none (v ∷ pre) post x a b = rw (in-over (v .lead) x (a .0)) (begun-none pre post x (a .1) b)
+
+-- ---- a begun sequence that comes to the element at n of a text
+
+module _ (r : Range) (rs : List Range) (text : List ℕ) (n : ℕ) where
+  pub want-ended : length text ≤ n → want (r ∷ rs) (drop n text) ≡ record { more = zero; tag = damage; sure = false }
+  want-ended h = rw (drop-of-length-le text h)
+
+  pub want-stopped : n < length text → within r (getD text n 0) ≡ false → want (r ∷ rs) (drop n text) ≡ lone
+  want-stopped h e = rw (drop-cons text n 0 h, e)
+
+  pub want-next : n < length text → within r (getD text n 0) ≡ true → want (r ∷ rs) (drop n text) ≡ longer (want rs (drop (suc n) text))
+  want-next h e = rw (drop-cons text n 0 h, e)

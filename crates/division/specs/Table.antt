@@ -3,6 +3,7 @@
 use Prim.Native.Nat.{ℕ, zero, suc}
 use mathlib.Core.Bool.{Bool, true, false, cond, _&&_}
 use mathlib.Core.List.{List, [], _∷_}
+use mathlib.Core.Option.{Option, none, some}
 use lib.Dec.{leb}
 use Rattle.division.specs.Reader.{Look, Reader}
 
@@ -42,7 +43,19 @@ want [] xs = record { more = zero; tag = whole; sure = true }
 want (r ∷ rs) [] = record { more = zero; tag = damage; sure = false }
 want (r ∷ rs) (x ∷ xs) = cond (within r x) (longer (want rs xs)) (record { more = zero; tag = damage; sure = true })
 
--- The reader of a table: the row that the first element begins; if there is none, that element alone is damage.
+-- the ranges that a sequence wants behind the element that begins it, if there is a row for it
+abbrev pub begun : List Row → ℕ → Option (List Range)
+begun [] x = none
+begun (w ∷ ws) x = cond (within (w .lead) x) (some (w .later)) (begun ws x)
+
+-- an element that begins no row is damage by itself
+abbrev pub lone : Look Kind
+lone = record { more = zero; tag = damage; sure = true }
+
+abbrev pub follow : Option (List Range) → List ℕ → Look Kind
+follow none xs = lone
+follow (some rs) xs = want rs xs
+
+-- THE READER OF A TABLE
 abbrev pub read : List Row → Reader Kind
-read [] x xs = record { more = zero; tag = damage; sure = true }
-read (w ∷ ws) x xs = cond (within (w .lead) x) (want (w .later) xs) (read ws x xs)
+read rows x xs = follow (begun rows x) xs

@@ -4,7 +4,7 @@ use mathlib.Core.Path.{_≡_, refl, sym, ap, _∙_}
 use Prim.Native.Nat.{ℕ, suc, _+_, _-_, _≤_, _<_}
 use mathlib.Core.Bool.{Bool, true, false}
 use mathlib.Core.List.{List, [], _∷_}
-use lib.ListN.{length, take, drop, length-drop}
+use lib.ListN.{length, getD, take, drop, length-drop}
 use lib.Seq.{take-all, drop-drop}
 use borrow.Author.Tests.{lt-ltb, le-ltb}
 use native.Mathlib.Omega.{arith}
@@ -14,14 +14,23 @@ use Rattle.division.specs.Table.{Kind, whole, damage, isDamage}
 use Rattle.division.specs.Tally.{size, entries}
 use Rattle.division.proofs.Dividing.{Division, first-size, cut-nil, cut-cons}
 use Rattle.terms.specs.Limits.{limit}
-use Rattle.terms.specs.Told.{first, bit, firstSays}
-use Rattle.terms.specs.Strict.{damages, strictly, limited}
+use Rattle.terms.specs.Told.{first, bit, lookSays, firstSays}
+use Rattle.terms.specs.Strict.{damages, checkSays}
 use Rattle.terms.specs.declared.First.{First}
 use Rattle.terms.specs.declared.First.the-variants.{Nothing, Whole, Damage, Begun}
 
 -- the text from a place on, as `&text[at..]` hands it over
 pub part-is : (text : List ℕ) (at : ℕ) → take (length text - at) (drop at text) ≡ drop at text
 part-is text at = take-all (length text - at) (drop at text) (omega (arith, length-drop at text))
+
+-- what is told of the empty text, and of one that is not empty
+pub says-nothing : (look : Reader Kind) (text : List ℕ) → length text ≡ 0 → [] ≡ firstSays look text
+says-nothing look [] e = refl
+says-nothing look (x ∷ xs) e = absurd (omega arith)
+
+pub says-look : (look : Reader Kind) (text : List ℕ) → (length text ≡ 0 → ⊥) → firstSays look text ≡ lookSays (look (getD text 0 0) (drop 1 text))
+says-look look [] e = absurd (e refl)
+says-look look (x ∷ xs) e = refl
 
 -- what was told of a text that is not empty, said of the look at it
 record Seen (look : Reader Kind) (text : List ℕ) (n : ℕ) (kind : Kind) (sure : Bool) : Type 0 where
@@ -118,18 +127,17 @@ pub clean-start : (look : Reader Kind) (text : List ℕ) → Clean look text 0
 clean-start look text = record { inside = omega arith; same = refl }
 
 module _ {look : Reader Kind} (text : List ℕ) (at : ℕ) (c : Clean look text at) where
-  pub clean-end : drop at text ≡ [] → damages look text ≡ []
-  clean-end e = c .same ∙ rw (e, cut-nil)
-
   pub clean-whole : (n : ℕ) → Turn look text at n whole → Clean look text (at + n)
   clean-whole n t = record { inside = t .inside; same = c .same ∙ rw (t .cuts, t .kind-is, t .size-is) }
 
-  pub clean-damage : (n : ℕ) → Turn look text at n damage → (granted : List ℕ) → strictly (damages look text) granted ≡ 1 ∷ at ∷ n ∷ []
-  clean-damage n t granted = rw (c .same, t .cuts, t .kind-is, t .size-is)
+  -- what is told at the end, and at the first damage
+  module _ (h : length text ≤ limit) where
+    pub check-end : drop at text ≡ [] → 0 ∷ [] ≡ checkSays look text
+    check-end e = let d : damages look text ≡ [] = c .same ∙ rw (e, cut-nil) in rw (le-ltb limit (length text) h, d)
+
+    pub check-damage : (n : ℕ) → Turn look text at n damage → 1 ∷ at ∷ n ∷ [] ≡ checkSays look text
+    check-damage n t = rw (le-ltb limit (length text) h, c .same, t .cuts, t .kind-is, t .size-is)
 
 -- refusal 2 goes before
-pub over : (text granted : List ℕ) → limit < length text → limited text granted ≡ 2 ∷ []
-over text granted h = rw (lt-ltb limit (length text) h)
-
-pub not-over : (text granted : List ℕ) → length text ≤ limit → limited text granted ≡ granted
-not-over text granted h = rw (le-ltb limit (length text) h)
+pub check-over : (look : Reader Kind) (text : List ℕ) → limit < length text → 2 ∷ [] ≡ checkSays look text
+check-over look text h = rw (lt-ltb limit (length text) h)

@@ -1,3 +1,4 @@
 pub mod Limits
 pub mod Told
 pub mod Strict
+pub mod Form

@@ -3,7 +3,7 @@
 use Prim.Native.Nat.{ℕ, suc}
 use mathlib.Core.Bool.{Bool, cond}
 use mathlib.Core.List.{List, [], _∷_}
-use Rattle.division.specs.Reader.{Reader}
+use Rattle.division.specs.Reader.{Look, Reader}
 use Rattle.division.specs.Table.{Kind, isDamage}
 use Rattle.terms.specs.declared.First.{First}
 use Rattle.terms.specs.declared.First.the-variants.{Nothing, Whole, Damage, Begun}
@@ -39,7 +39,10 @@ checked (Refused r) = refusal r
 abbrev pub bit : Bool → ℕ
 bit b = cond b 1 0
 
--- WHAT THE SEGMENT READER TELLS of a text
+-- WHAT THE SEGMENT READER TELLS of a look, and of a text
+abbrev pub lookSays : Look Kind → List ℕ
+lookSays l = bit (isDamage (l .tag)) ∷ suc (l .more) ∷ bit (l .sure) ∷ []
+
 abbrev pub firstSays : Reader Kind → List ℕ → List ℕ
 firstSays look [] = []
-firstSays look (x ∷ xs) = bit (isDamage (look x xs .tag)) ∷ suc (look x xs .more) ∷ bit (look x xs .sure) ∷ []
+firstSays look (x ∷ xs) = lookSays (look x xs)

@@ -1,0 +1,87 @@
+-- The rows of the byte table: which of them a byte begins, and the laws of a division that follow for byte texts.
+-- Assumes nothing.
+use mathlib.Core.Path.{_≡_, refl, sym, _∙_}
+use Prim.Native.Nat.{ℕ, zero, suc, _≤_, _<_}
+use mathlib.Core.Bool.{true, false}
+use mathlib.Core.List.{List, _∷_, _++_}
+use mathlib.Core.Option.{some, none}
+use lib.ListN.{length, getD, take, drop}
+use native.Mathlib.Omega.{arith}
+use Rattle.division.specs.Reader.{Segment, cut}
+use Rattle.division.specs.Table.{Row, Kind, isDamage, want, begun}
+use Rattle.division.specs.Sequence.{Stands, Divides}
+use Rattle.division.proofs.Cases.{All}
+use Rattle.division.proofs.Dividing.{Division, Holds}
+use Rattle.division.proofs.Tabling.{begun-row, begun-none, table-division, table-holds, table-top, table-damage, table-whole}
+use Rattle.division.proofs.Standing.{Sound, is-sound, stands-read, only-read, cut-divides, divides-once}
+use Rattle.terms.specs.Told.{first, lookSays, firstSays}
+use Rattle.terms.specs.declared.First.the-variants.{Damage}
+use Rattle.terms.proofs.Walking.{says-look}
+use Rattle.utf8.specs.Bytes.{rows, bytes}
+use Rattle.utf8.specs.Lead.{ranges, wanted}
+use Rattle.utf8.specs.declared.Lead.{Lead}
+use Rattle.utf8.specs.declared.Lead.the-variants.{Alone, Begins}
+
+-- a byte begins row k
+pub at-row : (k : ℕ) (w : Row) → rows ≡ take k rows ++ w ∷ drop (suc k) rows → (x : ℕ)
+    → All (λ v. v .lead .high < x) (take k rows) × (w .lead .low ≤ x) × (x ≤ w .lead .high) → begun rows x ≡ some (w .later)
+at-row k w e x m = rw e (begun-row (take k rows) w (drop (suc k) rows) x (m .0) (m .1) (m .2))
+
+-- a byte lies between the rows before k and the others
+pub at-none : (k : ℕ) → rows ≡ take k rows ++ drop k rows → (x : ℕ)
+    → All (λ v. v .lead .high < x) (take k rows) × All (λ v. x < v .lead .low) (drop k rows) → begun rows x ≡ none
+at-none k e x m = rw e (begun-none (take k rows) (drop k rows) x (m .0) (m .1))
+
+-- what the reader tells of a text, from what its first byte begins
+module _ (text : List ℕ) (some-there : length text ≡ 0 → ⊥) (r : Lead) (b : begun rows (getD text 0 0) ≡ wanted r) where
+  pub first-alone : r ≡ Alone → first (Damage 1) ≡ firstSays bytes text
+  unfolding bytes
+  first-alone e = sym (says-look bytes text some-there ∙ rw (b, e))
+
+  pub first-begun : (more low high : ℕ) → r ≡ Begins more low high → firstSays bytes text ≡ lookSays (want (ranges more low high) (drop 1 text))
+  unfolding bytes
+  first-begun more low high e = says-look bytes text some-there ∙ rw (b, e)
+
+-- ---- byte texts are a division; at most 3 bytes are held back, and damage has 1 to 3
+
+pub bytes-division : Division bytes
+unfolding bytes
+bytes-division = table-division rows
+
+pub bytes-hold : Holds bytes 3
+unfolding bytes rows
+bytes-hold = table-holds rows
+
+pub bytes-top : (x : ℕ) (xs : List ℕ) → bytes x xs .more ≤ 3
+unfolding bytes rows
+bytes-top = table-top rows
+
+pub damage-short : (x : ℕ) (xs : List ℕ) → isDamage (bytes x xs .tag) ≡ true → suc (bytes x xs .more) ≤ 3
+unfolding bytes rows
+damage-short = table-damage rows (omega arith)
+
+pub whole-sure : (x : ℕ) (xs : List ℕ) → isDamage (bytes x xs .tag) ≡ false → bytes x xs .sure ≡ true
+unfolding bytes
+whole-sure = table-whole rows
+
+-- ---- THE PAPER'S WORDS: the segment that is read is the one that stands there, and any text divides in exactly one way
+
+rows-sound : Sound zero rows
+unfolding rows
+rows-sound = is-sound zero rows refl
+
+pub bytes-stand : (x : ℕ) (xs : List ℕ) → Stands rows (x ∷ xs) (suc (bytes x xs .more)) (bytes x xs .tag)
+unfolding bytes
+bytes-stand = stands-read rows rows-sound
+
+pub only-bytes : (x : ℕ) (xs : List ℕ) (n : ℕ) (t : Kind) → Stands rows (x ∷ xs) n t → (n ≡ suc (bytes x xs .more)) × (t ≡ bytes x xs .tag)
+unfolding bytes
+only-bytes = only-read rows rows-sound
+
+pub bytes-divide : (text : List ℕ) → Divides rows text (cut bytes text)
+unfolding bytes
+bytes-divide = cut-divides rows rows-sound
+
+pub bytes-once : (ss : List (Segment Kind)) (text : List ℕ) → Divides rows text ss → ss ≡ cut bytes text
+unfolding bytes
+bytes-once = divides-once rows rows-sound

@@ -1,0 +1,98 @@
+// UTF-8: the segment that stands first in a byte text, and the strict check.
+use terms::Checked;
+use terms::Decoder;
+use terms::First;
+use terms::Refusal;
+ghost use mathlib.Core.Path.{_≡_};
+ghost use lib.ListN.{drop};
+ghost use Rattle.division.specs.Table.{want, begun};
+ghost use Rattle.terms.specs.Told.{first, lookSays, firstSays, checked};
+ghost use Rattle.terms.specs.Strict.{checkSays};
+ghost use Rattle.utf8.specs.Bytes.{rows, bytes};
+ghost use Rattle.utf8.specs.Lead.{ranges, wanted};
+
+// What a first byte tells: no sequence begins with it; or one does, and wants so many bytes more, the next from low to high
+// and the others from 80 to BF.
+pub enum Lead {
+    Alone,
+    Begins(usize, u8, u8),
+}
+
+fn lead_of(b: u8) -> Lead
+    ensures { λ r. ⌜ begun rows b ≡ wanted r ⌝ }
+{
+    match b {
+        0x00..=0x7F => Lead::Begins(0, 0x80, 0xBF),
+        0xC2..=0xDF => Lead::Begins(1, 0x80, 0xBF),
+        0xE0..=0xE0 => Lead::Begins(2, 0xA0, 0xBF),
+        0xE1..=0xEC => Lead::Begins(2, 0x80, 0xBF),
+        0xED..=0xED => Lead::Begins(2, 0x80, 0x9F),
+        0xEE..=0xEF => Lead::Begins(2, 0x80, 0xBF),
+        0xF0..=0xF0 => Lead::Begins(3, 0x90, 0xBF),
+        0xF1..=0xF3 => Lead::Begins(3, 0x80, 0xBF),
+        0xF4..=0xF4 => Lead::Begins(3, 0x80, 0x8F),
+        _ => Lead::Alone,
+    }
+}
+
+// Reads on behind a text's first byte, which wants so many more.
+fn follow(text: &[u8], more: usize, low: u8, high: u8) -> First
+    ensures { λ r. ⌜ first r ≡ lookSays (want (ranges more low high) (drop 1 (now (text .entry)))) ⌝ }
+{
+    let mut least = low;
+    let mut most = high;
+    let mut n: usize = 1;
+    while n <= more {
+        if text.len() <= n {
+            return First::Begun(n);
+        }
+        let b = text[n];
+        if b < least {
+            return First::Damage(n);
+        }
+        if most < b {
+            return First::Damage(n);
+        }
+        least = 0x80;
+        most = 0xBF;
+        n += 1;
+    }
+    First::Whole(n)
+}
+
+// The segment that stands first in a text.
+pub fn segment(text: &[u8]) -> First
+    ensures { λ r. ⌜ first r ≡ firstSays bytes (now (text .entry)) ⌝ }
+{
+    if text.len() == 0 {
+        return First::Nothing;
+    }
+    match lead_of(text[0]) {
+        Lead::Alone => First::Damage(1),
+        Lead::Begins(more, low, high) => follow(text, more, low, high),
+    }
+}
+
+// Is a text well-formed? If not, its first damage is told.
+pub fn check(text: &[u8]) -> Checked
+    ensures { λ r. ⌜ checked r ≡ checkSays bytes (now (text .entry)) ⌝ }
+{
+    if Decoder::LIMIT < text.len() {
+        return Checked::Refused(Refusal::OverLimit);
+    }
+    let mut at: usize = 0;
+    loop {
+        match segment(&text[at..]) {
+            First::Nothing => return Checked::WellFormed,
+            First::Whole(n) => at += n,
+            First::Damage(n) => return Checked::Refused(Refusal::Damaged {
+                start: at,
+                length: n,
+            }),
+            First::Begun(n) => return Checked::Refused(Refusal::Damaged {
+                start: at,
+                length: n,
+            }),
+        }
+    }
+}
