@@ -28,8 +28,8 @@ pub says-nothing : (look : Reader Kind) (text : List ℕ) → length text ≡ 0 
 says-nothing look [] e = refl
 says-nothing look (x ∷ xs) e = absurd (omega arith)
 
-pub says-look : (look : Reader Kind) (text : List ℕ) → (length text ≡ 0 → ⊥) → firstSays look text ≡ lookSays (look (getD text 0 0) (drop 1 text))
-says-look look [] e = absurd (e refl)
+pub says-look : (look : Reader Kind) (text : List ℕ) → 0 < length text → firstSays look text ≡ lookSays (look (getD text 0 0) (drop 1 text))
+says-look look [] e = absurd (omega arith)
 says-look look (x ∷ xs) e = refl
 
 -- what was told of a text that is not empty, said of the look at it
@@ -74,22 +74,14 @@ pub record Turn (look : Reader Kind) (text : List ℕ) (at n : ℕ) (kind : Kind
   pub inside : at + n ≤ length text
   pub cuts : cut look (drop at text) ≡ segment ∷ cut look (drop (at + n) text)
 
-module _ {look : Reader Kind} (D : Division look) (text : List ℕ) (at : ℕ) (in-text : at ≤ length text) where
-  -- what was told of the text from the place on
-  abbrev pub Tells : First → Type 0
-  Tells r = first r ≡ firstSays look (take (length text - at) (drop at text))
-
-  told-there : (r : First) → Tells r → first r ≡ firstSays look (drop at text)
-  told-there r e = rw part-is at e
-
-  turn-of : (n : ℕ) (kind : Kind) (sure : Bool) → Seen look (drop at text) n kind sure → Turn look text at n kind
-  turn-of n kind sure s =
+module _ {look : Reader Kind} (D : Division look) (text : List ℕ) (at : ℕ) where
+  turn-of : (n : ℕ) (kind : Kind) (sure : Bool) → at ≤ length text → Seen look (drop at text) n kind sure → Turn look text at n kind
+  turn-of n kind sure h s =
       let x = s .head in
       let xs = s .tail in
-      let m = look x xs .more in
       let l : length (drop at text) ≡ suc (length xs) = ap length (s .text-is) in
-      let f : m ≤ length xs = D .fits x xs in
-      let e : n ≡ suc m = s .long-is in
+      let f : look x xs .more ≤ length xs = D .fits x xs in
+      let e : n ≡ suc (look x xs .more) = s .long-is in
       record {
         segment = reader.first look x xs;
         body-is = rw (s .text-is, e);
@@ -100,22 +92,27 @@ module _ {look : Reader Kind} (D : Division look) (text : List ℕ) (at : ℕ) (
         cuts = rw (← drop-drop n at text, s .text-is, e) (cut-cons look x xs);
       }
 
-  pub turn-whole : (n : ℕ) → Tells (Whole n) → Turn look text at n whole
-  turn-whole n e = turn-of n whole true (seen look (drop at text) n whole true (told-there (Whole n) e))
+  -- what the reader told of `&text[at..]`
+  module _ (h : at ≤ length text) (r : First) (told : first r ≡ firstSays look (take (length text - at) (drop at text))) where
+    told-as : (q : First) → r ≡ q → first q ≡ firstSays look (drop at text)
+    told-as q e = ap first (sym e) ∙ rw part-is at told
 
-  pub turn-damage : (n : ℕ) → Tells (Damage n) → Turn look text at n damage
-  turn-damage n e = turn-of n damage true (seen look (drop at text) n damage true (told-there (Damage n) e))
+    pub turn-whole : (n : ℕ) → r ≡ Whole n → Turn look text at n whole
+    turn-whole n e = turn-of n whole true h (seen look (drop at text) n whole true (told-as (Whole n) e))
 
-  pub turn-begun : (n : ℕ) → Tells (Begun n) → Turn look text at n damage
-  turn-begun n e = turn-of n damage false (seen look (drop at text) n damage false (told-there (Begun n) e))
+    pub turn-damage : (n : ℕ) → r ≡ Damage n → Turn look text at n damage
+    turn-damage n e = turn-of n damage true h (seen look (drop at text) n damage true (told-as (Damage n) e))
 
-  -- where nothing was told the walk has come to the end
-  pub turn-end : Tells Nothing → drop at text ≡ []
-  turn-end e = go (drop at text) (told-there Nothing e)
-    where
-      go : (t : List ℕ) → first Nothing ≡ firstSays look t → t ≡ []
-      go [] q = refl
-      go (x ∷ xs) q = let z : _≡_ {A = ℕ} 0 1 = cc in absurd (omega arith)
+    pub turn-begun : (n : ℕ) → r ≡ Begun n → Turn look text at n damage
+    turn-begun n e = turn-of n damage false h (seen look (drop at text) n damage false (told-as (Begun n) e))
+
+    -- the walk has come to the end
+    pub turn-end : r ≡ Nothing → drop at text ≡ []
+    turn-end e = nothing-seen (drop at text) (told-as Nothing e)
+      where
+        nothing-seen : (t : List ℕ) → [] ≡ firstSays look t → t ≡ []
+        nothing-seen [] q = refl
+        nothing-seen (x ∷ xs) q = let z : _≡_ {A = ℕ} 0 1 = cc in absurd (omega arith)
 
 -- ---- the strict check: up to the place that the walk has come to there is no damage
 

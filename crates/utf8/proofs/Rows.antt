@@ -33,7 +33,7 @@ pub at-none : (k : ℕ) → rows ≡ take k rows ++ drop k rows → (x : ℕ)
 at-none k e x m = rw e (begun-none (take k rows) (drop k rows) x (m .0) (m .1))
 
 -- what the reader tells of a text, from what its first byte begins
-module _ (text : List ℕ) (some-there : length text ≡ 0 → ⊥) (r : Lead) (b : begun rows (getD text 0 0) ≡ wanted r) where
+module _ (text : List ℕ) (some-there : 0 < length text) (r : Lead) (b : begun rows (getD text 0 0) ≡ wanted r) where
   pub first-alone : r ≡ Alone → first (Damage 1) ≡ firstSays bytes text
   unfolding bytes
   first-alone e = sym (says-look bytes text some-there ∙ rw (b, e))

@@ -1,14 +1,11 @@
 -- `utf8::check` meets its contract: up to the place that the walk has come to there is no damage.
 -- Assumes nothing.
-use Prim.Native.Nat.{_-_, _+_, _<_}
-use mathlib.Core.Path.{_≡_, sym, ap, _∙_}
-use mathlib.Core.List.{List, []}
+use Prim.Native.Nat.{_-_}
 use lib.ListN.{length}
 use native.Mathlib.Omega.{arith}
 use borrow.Author.Needs.{needs}
 use Rattle.division.specs.Table.{whole}
-use Rattle.terms.specs.Told.{first}
-use Rattle.terms.proofs.Walking.{Tells, Turn, turn-whole, turn-damage, turn-begun, turn-end, Clean, clean-start, clean-whole, check-over, check-end, check-damage}
+use Rattle.terms.proofs.Walking.{Turn, turn-whole, turn-damage, turn-begun, turn-end, Clean, clean-start, clean-whole, check-over, check-end, check-damage}
 use Rattle.utf8.specs.Bytes.{bytes}
 use Rattle.utf8.proofs.Rows.{bytes-division}
 use Rattle.utf8.proofs.check.Statement.{statement}
@@ -47,7 +44,7 @@ returns-2 c =
     let l = g .before .before in
     let text = l .before .before .before .args .text .now in
     check-end text (l .loop .at) (l .loop .inv) (l .before .if1 .left)
-    (turn-end bytes-division text (l .loop .at) (l .loop .inv .inside) (ap first (sym (c .enum-told .given .1)) ∙ g .segment .ensures))
+    (turn-end bytes-division text (l .loop .at) (l .loop .inv .inside) _ (g .segment .ensures) (c .enum-told .given .1))
 
 enum-known-n : tie.Need-enum-known-n Inv-loop μ-loop
 enum-known-n c = search needs
@@ -59,7 +56,8 @@ turned : (c : tie.After-known-told Inv-loop μ-loop)
 turned c =
     let g = c .before .before .before in
     let l = g .before .before in
-    turn-whole bytes-division (l .before .before .before .args .text .now) (l .loop .at) (l .loop .inv .inside) _ (ap first (sym (c .before .n .given .1)) ∙ g .segment .ensures)
+    turn-whole bytes-division (l .before .before .before .args .text .now) (l .loop .at) (l .loop .inv .inside) _
+    (g .segment .ensures) _ (c .before .n .given .1)
 
 add-at : tie.Need-add-at Inv-loop μ-loop
 add-at c = let t = turned c in omega (arith, t .inside)
@@ -81,7 +79,7 @@ returns-3 c =
     let l = g .before .before in
     let text = l .before .before .before .args .text .now in
     check-damage text (l .loop .at) (l .loop .inv) (l .before .if1 .left) _
-    (turn-damage bytes-division text (l .loop .at) (l .loop .inv .inside) _ (ap first (sym (c .before .n2 .given .1)) ∙ g .segment .ensures))
+    (turn-damage bytes-division text (l .loop .at) (l .loop .inv .inside) _ (g .segment .ensures) _ (c .before .n2 .given .1))
 
 enum-known-n-3 : tie.Need-enum-known-n-3 Inv-loop μ-loop
 enum-known-n-3 c = search needs
@@ -92,7 +90,7 @@ returns-4 c =
     let l = g .before .before in
     let text = l .before .before .before .args .text .now in
     check-damage text (l .loop .at) (l .loop .inv) (l .before .if1 .left) _
-    (turn-begun bytes-division text (l .loop .at) (l .loop .inv .inside) _ (ap first (sym (c .before .n3 .given .1)) ∙ g .segment .ensures))
+    (turn-begun bytes-division text (l .loop .at) (l .loop .inv .inside) _ (g .segment .ensures) _ (c .before .n3 .given .1))
 
 pub check-spec : {M : Type 1} → statement M
 check-spec =

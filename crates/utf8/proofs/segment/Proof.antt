@@ -1,6 +1,7 @@
 -- `utf8::segment` meets its contract: what the first byte begins says all.
 -- Assumes nothing.
 use mathlib.Core.Path.{sym, _∙_}
+use native.Mathlib.Omega.{arith}
 use borrow.Author.Needs.{needs}
 use Rattle.terms.proofs.Walking.{says-nothing}
 use Rattle.utf8.specs.Bytes.{bytes}
@@ -29,14 +30,14 @@ follow-requires c κs = search needs
 returns-2 : tie.Need-returns-2
 returns-2 c =
     let l = c .before .before in
-    first-alone (l .before .before .before .before .args .text .now) (l .before .before .if1 .left) (l .lead-of .result) (l .lead-of .ensures) (c .enum-told .given .1)
+    first-alone (l .before .before .before .before .args .text .now) (omega arith) (l .lead-of .result) (l .lead-of .ensures) (c .enum-told .given .1)
 
 returns-3 : tie.Need-returns-3
 returns-3 c =
     let m = c .before .before in
     let l = m .before .before in
     c .follow .ensures
-    ∙ sym (first-begun (l .before .before .before .before .args .text .now) (l .before .before .if1 .left) (l .lead-of .result) (l .lead-of .ensures) _ _ _ (m .more .given .1))
+    ∙ sym (first-begun (l .before .before .before .before .args .text .now) (omega arith) (l .lead-of .result) (l .lead-of .ensures) _ _ _ (m .more .given .1))
 
 pub segment-spec : {M : Type 1} → statement M
 segment-spec =
