@@ -19,6 +19,11 @@ pub data Found (P : Type 0) : Type 0 where
   past : Found P
   unusable : ℕ → Found P
 
+-- the places that segments lead to, one behind another
+abbrev pub along : {K P : Type 0} → (P → Segment K → P) → P → List (Segment K) → List P
+along step p [] = p ∷ []
+along step p (s ∷ ss) = p ∷ along step (step p s) ss
+
 -- a measure m is a number read off a place
 module _ {K P : Type 0} (step : P → Segment K → P) (m : P → ℕ) where
   -- the count is the offset, or more
@@ -36,6 +41,10 @@ module _ {K P : Type 0} (step : P → Segment K → P) (m : P → ℕ) where
   last most p (s ∷ ss) = cond (leb (m (step p s)) most) (last most (step p s) ss) p
 
 module _ {K P : Type 0} (look : Reader K) (R : Ruler K P) where
+  -- the places of a text: one at each of its boundaries
+  abbrev pub places : List ℕ → List P
+  places xs = along (R .step) (R .zeroth) (cut look xs)
+
   abbrev pub plain : (P → ℕ) → ℕ → List ℕ → Found P
   plain m o xs = lookup (R .step) m o (R .zeroth) (cut look xs)
 

@@ -14,7 +14,7 @@ use Rattle.division.specs.Table.{Kind, whole, damage, isDamage}
 use Rattle.division.specs.Tally.{size, entries}
 use Rattle.division.proofs.Dividing.{Division, first-size, cut-nil, cut-cons}
 use Rattle.terms.specs.Limits.{limit}
-use Rattle.terms.specs.Told.{first, bit, lookSays, firstSays}
+use Rattle.terms.specs.Told.{first, sizeOf, bit, lookSays, firstSays}
 use Rattle.terms.specs.Strict.{damages, checkSays}
 use Rattle.terms.specs.declared.First.{First}
 use Rattle.terms.specs.declared.First.the-variants.{Nothing, Whole, Damage, Begun}
@@ -113,6 +113,16 @@ module _ {look : Reader Kind} (D : Division look) (text : List ℕ) (at : ℕ) w
         nothing-seen : (t : List ℕ) → [] ≡ firstSays look t → t ≡ []
         nothing-seen [] q = refl
         nothing-seen (x ∷ xs) q = let z : _≡_ {A = ℕ} 0 1 = cc in absurd (omega arith)
+
+    -- where there is text left, something stands first, and the walk goes on behind it
+    pub turn-size : at < length text → (0 < sizeOf r) × (at + sizeOf r ≤ length text)
+    turn-size l = go r refl
+      where
+        go : (q : First) → r ≡ q → (0 < sizeOf q) × (at + sizeOf q ≤ length text)
+        go Nothing e = let z : length (drop at text) ≡ 0 = ap length (turn-end e) in absurd (omega (arith, length-drop at text))
+        go (Whole n) e = let t = turn-whole n e in (t .some, t .inside)
+        go (Damage n) e = let t = turn-damage n e in (t .some, t .inside)
+        go (Begun n) e = let t = turn-begun n e in (t .some, t .inside)
 
 -- ---- the strict check: up to the place that the walk has come to there is no damage
 

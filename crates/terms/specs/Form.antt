@@ -1,11 +1,12 @@
 -- Scalar values, and the forms in which a text of them is kept.
 -- Assumes nothing.
 use Prim.Native.Nat.{ℕ}
-use mathlib.Core.Bool.{Bool, _&&_, _||_}
+use mathlib.Core.Bool.{Bool, cond, _&&_, _||_}
 use mathlib.Core.List.{List}
 use lib.Dec.{ltb}
-use Rattle.division.specs.Reader.{Reader}
-use Rattle.division.specs.Table.{Kind}
+use Rattle.division.specs.Reader.{Reader, Segment, body, cut}
+use Rattle.division.specs.Table.{Kind, isDamage}
+use Rattle.division.specs.Tally.{written}
 
 -- 0 to D7FF, or E000 to 10FFFF
 abbrev pub isScalar : ℕ → Bool
@@ -16,3 +17,21 @@ pub record Form : Type 0 where
   pub look : Reader Kind
   pub value : List ℕ → ℕ
   pub write : ℕ → List ℕ
+
+-- U+FFFD stands for damage
+abbrev pub replacement : ℕ
+replacement = 0xFFFD
+
+-- THE REPAIRED FORM of a text: whole segments as they are, U+FFFD for each damage
+abbrev pub mend : Form → Segment Kind → List ℕ
+mend F s = cond (isDamage (s .tag)) (F .write replacement) (body s)
+
+abbrev pub repaired : Form → List ℕ → List ℕ
+repaired F text = written (mend F) (cut (F .look) text)
+
+-- A TEXT IN ANOTHER FORM: each segment's code point, U+FFFD for damage, in the other form's elements
+abbrev pub pointOf : Form → Segment Kind → ℕ
+pointOf F s = cond (isDamage (s .tag)) replacement (F .value (body s))
+
+abbrev pub converted : Form → Form → List ℕ → List ℕ
+converted F G text = written (λ s. G .write (pointOf F s)) (cut (F .look) text)

@@ -31,6 +31,13 @@ first (Whole n) = 0 ∷ n ∷ 1 ∷ []
 first (Damage n) = 1 ∷ n ∷ 1 ∷ []
 first (Begun n) = 1 ∷ n ∷ 0 ∷ []
 
+-- how many elements it has
+abbrev pub sizeOf : First → ℕ
+sizeOf Nothing = 0
+sizeOf (Whole n) = n
+sizeOf (Damage n) = n
+sizeOf (Begun n) = n
+
 abbrev pub checked : Checked → List ℕ
 checked WellFormed = 0 ∷ []
 checked (Refused r) = refusal r

@@ -1,4 +1,6 @@
 // The terms in which every call answers: the limits, what stands first in a text, and the refusals by their numbers.
+ghost use mathlib.Core.Path.{_≡_};
+ghost use Rattle.terms.specs.Told.{sizeOf};
 
 // The decoder of a text that comes in pieces. The limits belong to it.
 pub struct Decoder {}
@@ -17,6 +19,20 @@ pub enum First {
     Whole(usize),
     Damage(usize),
     Begun(usize),
+}
+
+impl First {
+    // How many elements it has.
+    pub fn size(self) -> usize
+        ensures { λ r. ⌜ r ≡ sizeOf self ⌝ }
+    {
+        match self {
+            First::Nothing => 0,
+            First::Whole(n) => n,
+            First::Damage(n) => n,
+            First::Begun(n) => n,
+        }
+    }
 }
 
 // Why a call refuses, in the order of the numbers 1 to 9.
