@@ -2,17 +2,19 @@
 -- Assumes nothing.
 use mathlib.Core.Path.{_≡_, refl, sym, ap, _∙_}
 use Prim.Native.Nat.{ℕ}
-use mathlib.Core.Bool.{cond}
+use mathlib.Core.Bool.{false, cond}
 use mathlib.Core.List.{List}
 use lib.ListN.{length, getD}
 use lib.Dec.{eqb}
-use Rattle.terms.specs.Told.{refusal, first, checked}
+use Rattle.terms.specs.Told.{refusal, first, checked, written}
 use Rattle.terms.specs.declared.First.{First}
 use Rattle.terms.specs.declared.First.the-variants.{Nothing, Whole, Damage, Begun}
 use Rattle.terms.specs.declared.Refusal.{Refusal}
 use Rattle.terms.specs.declared.Refusal.the-variants.{Damaged, OverLimit, NoRoom, PastEnd, Inside, Unusable, ListRoom, BadState, NoScalar}
 use Rattle.terms.specs.declared.Checked.{Checked}
 use Rattle.terms.specs.declared.Checked.the-variants.{WellFormed, Refused}
+use Rattle.terms.specs.declared.Written.{Written}
+use Rattle.terms.specs.declared.Written.the-variants as the-written
 
 -- what can be read back is not lost
 pub by-back : {A : Type 0} (told : A → List ℕ) (back : List ℕ → A) → ((a : A) → back (told a) ≡ a) → (a b : A) → told a ≡ told b → a ≡ b
@@ -55,22 +57,39 @@ first-back (Begun n) = refl
 pub told-first : (a b : First) → first a ≡ first b → a ≡ b
 told-first = by-back first backFirst first-back
 
+-- a refusal's number is not 0, so that it is told from what is granted
+abbrev number : Refusal → ℕ
+number r = getD (refusal r) 0 0
+
+no-zero : (r : Refusal) → eqb (number r) 0 ≡ false
+no-zero (Damaged start length) = refl
+no-zero OverLimit = refl
+no-zero (NoRoom needed) = refl
+no-zero PastEnd = refl
+no-zero Inside = refl
+no-zero (Unusable checkpoint) = refl
+no-zero ListRoom = refl
+no-zero BadState = refl
+no-zero (NoScalar position) = refl
+
 backChecked : List ℕ → Checked
 backChecked l = cond (eqb (getD l 0 0) 0) WellFormed (Refused (backRefusal l))
 
--- a refusal's number is not 0, so that it is no well-formed answer
 checked-back : (a : Checked) → backChecked (checked a) ≡ a
-unfolding backChecked backRefusal
+unfolding backChecked
 checked-back WellFormed = refl
-checked-back (Refused (Damaged start length)) = refl
-checked-back (Refused OverLimit) = refl
-checked-back (Refused (NoRoom needed)) = refl
-checked-back (Refused PastEnd) = refl
-checked-back (Refused Inside) = refl
-checked-back (Refused (Unusable checkpoint)) = refl
-checked-back (Refused ListRoom) = refl
-checked-back (Refused BadState) = refl
-checked-back (Refused (NoScalar position)) = refl
+checked-back (Refused r) = rw (no-zero r, refusal-back r)
 
 pub told-checked : (a b : Checked) → checked a ≡ checked b → a ≡ b
 told-checked = by-back checked backChecked checked-back
+
+backWritten : List ℕ → Written
+backWritten l = cond (eqb (getD l 0 0) 0) (the-written.Count (getD l 1 0)) (the-written.Refused (backRefusal l))
+
+written-back : (a : Written) → backWritten (written a) ≡ a
+unfolding backWritten
+written-back (the-written.Count n) = refl
+written-back (the-written.Refused r) = rw (no-zero r, refusal-back r)
+
+pub told-written : (a b : Written) → written a ≡ written b → a ≡ b
+told-written = by-back written backWritten written-back

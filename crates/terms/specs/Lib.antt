@@ -2,3 +2,4 @@ pub mod Limits
 pub mod Told
 pub mod Strict
 pub mod Form
+pub mod Writing

@@ -14,10 +14,14 @@ use Rattle.terms.specs.Limits.{limit}
 abbrev pub damages : Reader Kind → List ℕ → List (Entry Kind)
 damages look text = entries isDamage 0 (cut look text)
 
--- refusal 1 with the start and the length of the first of them, or what is granted if there is none
-abbrev pub strictly : List (Entry Kind) → List ℕ → List ℕ
-strictly [] granted = granted
-strictly (e ∷ es) granted = 1 ∷ e .start ∷ e .long ∷ []
+-- a refusal of the first of them, or what is granted if there is none
+abbrev pub strictly : (Entry Kind → List ℕ) → List (Entry Kind) → List ℕ → List ℕ
+strictly refuse [] granted = granted
+strictly refuse (e ∷ es) granted = refuse e
+
+-- refusal 1 tells the start and the length of the damage
+abbrev pub damaged : Entry Kind → List ℕ
+damaged e = 1 ∷ e .start ∷ e .long ∷ []
 
 -- refusal 2 where a text is over the limit
 abbrev pub limited : List ℕ → List ℕ → List ℕ
@@ -25,4 +29,4 @@ limited text granted = cond (ltb limit (length text)) (2 ∷ []) granted
 
 -- THE STRICT CHECK: refusal 2, then 1, or well-formed
 abbrev pub checkSays : Reader Kind → List ℕ → List ℕ
-checkSays look text = limited text (strictly (damages look text) (0 ∷ []))
+checkSays look text = limited text (strictly damaged (damages look text) (0 ∷ []))

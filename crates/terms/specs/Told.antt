@@ -10,7 +10,9 @@ use Rattle.terms.specs.declared.First.the-variants.{Nothing, Whole, Dama
 use Rattle.terms.specs.declared.Refusal.{Refusal}
 use Rattle.terms.specs.declared.Refusal.the-variants.{Damaged, OverLimit, NoRoom, PastEnd, Inside, Unusable, ListRoom, BadState, NoScalar}
 use Rattle.terms.specs.declared.Checked.{Checked}
-use Rattle.terms.specs.declared.Checked.the-variants.{WellFormed, Refused}
+use Rattle.terms.specs.declared.Checked.the-variants as the-checked
+use Rattle.terms.specs.declared.Written.{Written}
+use Rattle.terms.specs.declared.Written.the-variants as the-written
 
 -- THE TABLE OF REFUSALS
 abbrev pub refusal : Refusal → List ℕ
@@ -39,8 +41,12 @@ sizeOf (Damage n) = n
 sizeOf (Begun n) = n
 
 abbrev pub checked : Checked → List ℕ
-checked WellFormed = 0 ∷ []
-checked (Refused r) = refusal r
+checked the-checked.WellFormed = 0 ∷ []
+checked (the-checked.Refused r) = refusal r
+
+abbrev pub written : Written → List ℕ
+written (the-written.Count n) = 0 ∷ n ∷ []
+written (the-written.Refused r) = refusal r
 
 -- a test as a number
 abbrev pub bit : Bool → ℕ

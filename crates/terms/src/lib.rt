@@ -53,3 +53,9 @@ pub enum Checked {
     WellFormed,
     Refused(Refusal),
 }
+
+// The answer of a call that writes: how many places were written from the start of the output.
+pub enum Written {
+    Count(usize),
+    Refused(Refusal),
+}
