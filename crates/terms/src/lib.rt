@@ -1,6 +1,7 @@
 // The terms in which every call answers: the limits, what stands first in a text, and the refusals by their numbers.
 ghost use mathlib.Core.Path.{_≡_};
-ghost use Rattle.terms.specs.Told.{sizeOf};
+ghost use mathlib.Core.List.{[], _∷_};
+ghost use Rattle.terms.specs.Told.{sizeOf, checked};
 
 // The decoder of a text that comes in pieces. The limits belong to it.
 pub struct Decoder {}
@@ -52,6 +53,15 @@ pub enum Refusal {
 pub enum Checked {
     WellFormed,
     Refused(Refusal),
+}
+
+impl Checked {
+    // Refusal 1 with the first damage.
+    pub fn damaged(start: usize, length: usize) -> Checked
+        ensures { λ r. ⌜ checked r ≡ 1 ∷ start ∷ length ∷ [] ⌝ }
+    {
+        Checked::Refused(Refusal::Damaged { start, length })
+    }
 }
 
 // The answer of a call that writes: how many places were written from the start of the output.

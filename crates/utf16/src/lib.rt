@@ -50,14 +50,8 @@ pub fn check(text: &[u16]) -> Checked
         match segment(&text[at..]) {
             First::Nothing => return Checked::WellFormed,
             First::Whole(n) => at += n,
-            First::Damage(n) => return Checked::Refused(Refusal::Damaged {
-                start: at,
-                length: n,
-            }),
-            First::Begun(n) => return Checked::Refused(Refusal::Damaged {
-                start: at,
-                length: n,
-            }),
+            First::Damage(n) => return Checked::damaged(at, n),
+            First::Begun(n) => return Checked::damaged(at, n),
         }
     }
 }

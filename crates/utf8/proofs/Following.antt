@@ -1,16 +1,16 @@
 -- The reader's loop over the bytes that a first byte wants: what it tells is what was passed and what the rest says.
 -- Assumes nothing.
-use mathlib.Core.Path.{_≡_, sym, ap, _∙_}
+use mathlib.Core.Path.{_≡_, ap, _∙_}
 use Prim.Native.Nat.{ℕ, suc, _+_, _-_, _≤_, _<_}
 use native.Mathlib.Nat.{add-zero}
-use mathlib.Core.Bool.{false}
+use mathlib.Core.Bool.{true, false}
 use mathlib.Core.List.{List, [], _∷_}
 use lib.ListN.{length, drop, getD}
 use native.Mathlib.Numerals.{add-one}
 use native.Mathlib.Omega.{arith}
 use Rattle.division.specs.Reader.{Look}
 use Rattle.division.specs.Table.{_to_, within, Kind, isDamage, want}
-use Rattle.division.proofs.Tabling.{in-yes, in-under, in-over, want-ended, want-stopped, want-next}
+use Rattle.division.proofs.Tabling.{want-ended, want-stopped, want-next}
 use Rattle.terms.specs.Told.{first, bit, lookSays}
 use Rattle.terms.specs.declared.First.the-variants.{Whole, Damage, Begun}
 use Rattle.utf8.specs.Bytes.{next}
@@ -47,19 +47,13 @@ module _ (text : List ℕ) (more low high : ℕ) where
       follow-ended k = rw (same-here, want-ended (least to most) (ranges (more - n) (next .low) (next .high)) text n k, add-zero)
 
       -- another byte stops it
-      stopped : n < length text → within (least to most) (getD text n 0) ≡ false
+      pub follow-stopped : n < length text → within (least to most) (getD text n 0) ≡ false
           → first (Damage n) ≡ lookSays (want (ranges more low high) (drop 1 text))
-      stopped k e = rw (same-here, want-stopped (least to most) (ranges (more - n) (next .low) (next .high)) text n k e, add-zero)
-
-      pub follow-under : n < length text → getD text n 0 < least → first (Damage n) ≡ lookSays (want (ranges more low high) (drop 1 text))
-      follow-under k b = stopped k (in-under (least to most) (getD text n 0) b)
-
-      pub follow-over : n < length text → most < getD text n 0 → first (Damage n) ≡ lookSays (want (ranges more low high) (drop 1 text))
-      follow-over k b = stopped k (in-over (least to most) (getD text n 0) b)
+      follow-stopped k e = rw (same-here, want-stopped (least to most) (ranges (more - n) (next .low) (next .high)) text n k e, add-zero)
 
       -- the byte is as wanted
-      pub follow-next : n < length text → least ≤ getD text n 0 → getD text n 0 ≤ most → Followed (next .low) (next .high) (n + 1)
-      follow-next k a b =
+      pub follow-next : n < length text → within (least to most) (getD text n 0) ≡ true → Followed (next .low) (next .high) (n + 1)
+      follow-next k b =
           let rs = ranges (more - n) (next .low) (next .high) in
           let l : Look Kind = want rs (drop (suc n) text) in
           let e : suc more - (n + 1) ≡ more - n = omega arith in
@@ -67,6 +61,6 @@ module _ (text : List ℕ) (more low high : ℕ) where
             wanted = omega arith;
             same =
                 same-here
-                ∙ rw (want-next (least to most) rs text n k (in-yes (least to most) (getD text n 0) a b), e, add-one n)
+                ∙ rw (want-next (least to most) rs text n k b, e, add-one n)
                 (ap (λ (i : ℕ). bit (isDamage (l .tag)) ∷ i ∷ bit (l .sure) ∷ []) (omega arith));
           }

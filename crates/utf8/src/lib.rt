@@ -5,7 +5,7 @@ use terms::First;
 use terms::Refusal;
 ghost use mathlib.Core.Path.{_≡_};
 ghost use lib.ListN.{drop};
-ghost use Rattle.division.specs.Table.{want, begun};
+ghost use Rattle.division.specs.Table.{_to_, within, want, begun};
 ghost use Rattle.terms.specs.Told.{first, lookSays, firstSays, checked};
 ghost use Rattle.terms.specs.Strict.{checkSays};
 ghost use Rattle.utf8.specs.Bytes.{rows, bytes};
@@ -35,6 +35,12 @@ fn lead_of(b: u8) -> Lead
     }
 }
 
+fn between(b: u8, low: u8, high: u8) -> bool
+    ensures { λ r. ⌜ r ≡ within (low to high) b ⌝ }
+{
+    low <= b && b <= high
+}
+
 // Reads on behind a text's first byte, which wants so many more.
 fn follow(text: &[u8], more: usize, low: u8, high: u8) -> First
     ensures { λ r. ⌜ first r ≡ lookSays (want (ranges more low high) (drop 1 (now (text .entry)))) ⌝ }
@@ -46,11 +52,7 @@ fn follow(text: &[u8], more: usize, low: u8, high: u8) -> First
         if text.len() <= n {
             return First::Begun(n);
         }
-        let b = text[n];
-        if b < least {
-            return First::Damage(n);
-        }
-        if most < b {
+        if !between(text[n], least, most) {
             return First::Damage(n);
         }
         least = 0x80;
@@ -85,14 +87,8 @@ pub fn check(text: &[u8]) -> Checked
         match segment(&text[at..]) {
             First::Nothing => return Checked::WellFormed,
             First::Whole(n) => at += n,
-            First::Damage(n) => return Checked::Refused(Refusal::Damaged {
-                start: at,
-                length: n,
-            }),
-            First::Begun(n) => return Checked::Refused(Refusal::Damaged {
-                start: at,
-                length: n,
-            }),
+            First::Damage(n) => return Checked::damaged(at, n),
+            First::Begun(n) => return Checked::damaged(at, n),
         }
     }
 }

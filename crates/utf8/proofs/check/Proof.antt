@@ -1,6 +1,7 @@
 -- `utf8::check` meets its contract: up to the place that the walk has come to there is no damage.
 -- Assumes nothing.
 use Prim.Native.Nat.{_-_}
+use mathlib.Core.Path.{_∙_}
 use lib.ListN.{length}
 use native.Mathlib.Omega.{arith}
 use borrow.Author.Needs.{needs}
@@ -73,24 +74,32 @@ loop-again c =
 enum-known-n-2 : tie.Need-enum-known-n-2 Inv-loop μ-loop
 enum-known-n-2 c = search needs
 
+damaged-requires : tie.Need-damaged-requires Inv-loop μ-loop
+damaged-requires c κs = search needs
+
 returns-3 : tie.Need-returns-3 Inv-loop μ-loop
 returns-3 c =
-    let g = c .before .before .before in
+    let g = c .before .before .before .before in
     let l = g .before .before in
     let text = l .before .before .before .args .text .now in
-    check-damage text (l .loop .at) (l .loop .inv) (l .before .if1 .left) _
-    (turn-damage bytes-division text (l .loop .at) (l .loop .inv .inside) _ (g .segment .ensures) _ (c .before .n2 .given .1))
+    c .damaged .ensures
+    ∙ check-damage text (l .loop .at) (l .loop .inv) (l .before .if1 .left) _
+    (turn-damage bytes-division text (l .loop .at) (l .loop .inv .inside) _ (g .segment .ensures) _ (c .before .before .n2 .given .1))
 
 enum-known-n-3 : tie.Need-enum-known-n-3 Inv-loop μ-loop
 enum-known-n-3 c = search needs
 
+damaged-requires-2 : tie.Need-damaged-requires-2 Inv-loop μ-loop
+damaged-requires-2 c κs = search needs
+
 returns-4 : tie.Need-returns-4 Inv-loop μ-loop
 returns-4 c =
-    let g = c .before .before .before in
+    let g = c .before .before .before .before in
     let l = g .before .before in
     let text = l .before .before .before .args .text .now in
-    check-damage text (l .loop .at) (l .loop .inv) (l .before .if1 .left) _
-    (turn-begun bytes-division text (l .loop .at) (l .loop .inv .inside) _ (g .segment .ensures) _ (c .before .n3 .given .1))
+    c .damaged2 .ensures
+    ∙ check-damage text (l .loop .at) (l .loop .inv) (l .before .if1 .left) _
+    (turn-begun bytes-division text (l .loop .at) (l .loop .inv .inside) _ (g .segment .ensures) _ (c .before .before .n3 .given .1))
 
 pub check-spec : {M : Type 1} → statement M
 check-spec =
@@ -111,6 +120,8 @@ check-spec =
     loop-less
     loop-again
     enum-known-n-2
+    damaged-requires
     returns-3
     enum-known-n-3
+    damaged-requires-2
     returns-4)

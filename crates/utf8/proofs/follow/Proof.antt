@@ -1,8 +1,11 @@
 -- `utf8::follow` meets its contract, by the laws of `Following`.
 -- Assumes nothing.
-use Prim.Native.Nat.{_-_, _≤_, suc}
+use Prim.Native.Nat.{_-_, suc}
+use mathlib.Core.Path.{sym, _∙_}
 use native.Mathlib.Omega.{arith}
-use Rattle.utf8.proofs.Following.{Followed, follow-start, follow-whole, follow-ended, follow-under, follow-over, follow-next}
+use borrow.Author.Tests.{not-true, not-false}
+use Rattle.utf8.proofs.Following.{Followed, follow-start, follow-whole, follow-ended, follow-stopped, follow-next}
+use borrow.Author.Needs.{needs}
 use Rattle.utf8.proofs.follow.Statement.{statement}
 use Rattle.utf8.proofs.follow.Tie as tie
 
@@ -18,14 +21,16 @@ loop-holds c = follow-start _ _ _ _
 returns : tie.Need-returns Inv-loop μ-loop
 returns c = follow-ended _ _ _ _ _ _ _ (c .before .before .loop .inv) (omega arith) (omega arith)
 
-shared-slice-read-b : tie.Need-shared-slice-read-b Inv-loop μ-loop
-shared-slice-read-b c = omega arith
+shared-slice-read-between : tie.Need-shared-slice-read-between Inv-loop μ-loop
+shared-slice-read-between c = omega arith
+
+between-requires : tie.Need-between-requires Inv-loop μ-loop
+between-requires c κs = search needs
 
 returns-2 : tie.Need-returns-2 Inv-loop μ-loop
-returns-2 c = follow-under _ _ _ _ _ _ _ (c .before .before .before .before .loop .inv) (omega arith) (omega arith) (omega arith)
-
-returns-3 : tie.Need-returns-3 Inv-loop μ-loop
-returns-3 c = follow-over _ _ _ _ _ _ _ (c .before .before .before .before .before .loop .inv) (omega arith) (omega arith) (omega arith)
+returns-2 c =
+    let b = c .before in
+    follow-stopped _ _ _ _ _ _ _ (b .before .before .before .before .loop .inv) (omega arith) (omega arith) (sym (b .between .ensures) ∙ not-true _ (c .if2 .taken))
 
 add-n : tie.Need-add-n Inv-loop μ-loop
 add-n c = omega arith
@@ -34,10 +39,12 @@ loop-less : tie.Need-loop-less Inv-loop μ-loop
 loop-less c = omega arith
 
 loop-again : tie.Need-loop-again Inv-loop μ-loop
-loop-again c = follow-next _ _ _ _ _ _ _ (c .before .before .before .before .before .loop .inv) (omega arith) (omega arith) (omega arith) (omega arith)
+loop-again c =
+    let b = c .before in
+    follow-next _ _ _ _ _ _ _ (b .before .before .before .before .loop .inv) (omega arith) (omega arith) (sym (b .between .ensures) ∙ not-false _ (c .if2 .left))
 
-returns-4 : tie.Need-returns-4 Inv-loop μ-loop
-returns-4 c = follow-whole _ _ _ _ _ _ _ (c .before .loop .inv) (omega arith)
+returns-3 : tie.Need-returns-3 Inv-loop μ-loop
+returns-3 c = follow-whole _ _ _ _ _ _ _ (c .before .loop .inv) (omega arith)
 
 pub follow-spec : {M : Type 1} → statement M
 follow-spec =
@@ -47,10 +54,10 @@ follow-spec =
     μ-loop
     loop-holds
     returns
-    shared-slice-read-b
+    shared-slice-read-between
+    between-requires
     returns-2
-    returns-3
     add-n
     loop-less
     loop-again
-    returns-4)
+    returns-3)

@@ -1,0 +1,14 @@
+-- Both tests are the range's.
+-- Assumes nothing.
+use borrow.Author.Tests.{le-leb, lt-leb}
+use Rattle.utf8.proofs.between.Statement.{statement}
+use Rattle.utf8.proofs.between.Tie as tie
+
+returns : tie.Need-returns
+returns c = rw (le-leb (c .before .args .low) (c .before .args .b) (c .if1 .taken))
+
+returns-2 : tie.Need-returns-2
+returns-2 c = rw (lt-leb (c .before .args .low) (c .before .args .b) (c .if1 .left))
+
+pub between-spec : {M : Type 1} → statement M
+between-spec = tie.close (tie.spec returns returns-2)
