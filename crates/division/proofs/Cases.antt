@@ -1,16 +1,22 @@
 -- Tests and lists: what the kit's libraries lack and every crate's laws use.
 -- Assumes nothing.
 use mathlib.Core.Path.{_≡_, refl}
-use Prim.Native.Nat.{ℕ, zero, suc, _+_}
+use Prim.Native.Nat.{ℕ, zero, suc, _+_, _≤_, _<_}
 use mathlib.Core.Bool.{Bool, true, false, _&&_, and-eq-true-iff}
 use mathlib.Core.List.{List, [], _∷_}
 use lib.ListN.{drop}
+use lib.Dec.{ltb}
+use borrow.Author.Tests.{ltb-true, ltb-false}
 use native.Mathlib.Omega.{arith}
 
 -- a test's two answers, each with its equation
 pub split {ℓ} : {X : Type ℓ} (b : Bool) → (b ≡ true → X) → (b ≡ false → X) → X
 split true f g = f refl
 split false f g = g refl
+
+-- a number and a bound
+pub under {ℓ} : {X : Type ℓ} (n bound : ℕ) → (n < bound → X) → (bound ≤ n → X) → X
+under n bound f g = split (ltb n bound) (λ e. f (ltb-true n bound e)) (λ e. g (ltb-false n bound e))
 
 -- both halves of a test
 pub both : (a b : Bool) → a && b ≡ true → (a ≡ true) × (b ≡ true)

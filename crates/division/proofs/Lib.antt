@@ -8,3 +8,4 @@ pub mod Indexing
 pub mod Building
 pub mod Tabling
 pub mod Standing
+pub mod Matching

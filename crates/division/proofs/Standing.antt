@@ -148,7 +148,7 @@ lead-of low [] x p = alone (record { none = λ ys s. s; reads = λ xs. refl })
 lead-of low (w ∷ ws) x p = split (within (w .lead) x) (lead-here low w ws x p) (λ e. lead-behind w ws x e (lead-of (suc (w .lead .high)) ws x (p .3)))
 
 -- every sequence has a first element
-no-empty : (rows : List Row) → Sequence rows [] → ⊥
+pub no-empty : (rows : List Row) → Sequence rows [] → ⊥
 no-empty [] s = s
 no-empty (w ∷ ws) (inl m) = m
 no-empty (w ∷ ws) (inr s) = no-empty ws s

@@ -1,53 +1,41 @@
 -- What the reader of units tells, from the tests that its code makes: a law for each of its arms.
 -- Assumes nothing.
-use mathlib.Core.Path.{_≡_, refl, sym, _∙_}
+use mathlib.Core.Path.{_≡_, sym, ap, _∙_}
+use mathlib.Core.Logic.{_⊎_, inl}
 use Prim.Native.Nat.{ℕ, _≤_, _<_}
-use mathlib.Core.List.{List, [], _∷_}
-use mathlib.Core.Option.{some, none}
-use lib.ListN.{length, getD, take, drop}
+use mathlib.Core.Bool.{true, false}
+use mathlib.Core.List.{List}
+use lib.ListN.{length, getD, drop, drop-of-length-le}
+use lib.Seq.{drop-cons}
 use native.Mathlib.Omega.{arith}
-use Rattle.division.specs.Table.{Range, _to_, begun}
-use Rattle.division.proofs.Tabling.{in-yes, in-under, in-over, begun-row, begun-none, want-ended, want-stopped, want-next}
-use Rattle.terms.specs.Told.{first, firstSays}
+use Rattle.division.specs.Reader.{Look}
+use Rattle.division.specs.Table.{Kind, whole, damage, lone}
+use Rattle.terms.specs.Told.{first, lookSays, firstSays}
 use Rattle.terms.specs.declared.First.the-variants.{Whole, Damage, Begun}
 use Rattle.terms.proofs.Walking.{says-look}
-use Rattle.utf16.specs.Units.{rows, units}
-
-abbrev second : Range
-second = 0xDC00 to 0xDFFF
+use Rattle.utf16.specs.Units.{units}
+use Rattle.utf16.proofs.Rows.{FirstHalf, SecondHalf, unit-whole, second-alone, first-ended, first-stopped, pair-whole}
 
 module _ (text : List ℕ) (some-there : 0 < length text) where
-  pub first-low : getD text 0 0 < 0xD800 → first (Whole 1) ≡ firstSays units text
-  unfolding units rows
-  first-low h = sym (says-look units text some-there ∙ rw (begun-row [] (record { lead = 0 to 0xD7FF; later = [] }) (drop 1 rows) (getD text 0 0) tt (omega arith) (omega arith)))
+  says : (l : Look Kind) → units (getD text 0 0) (drop 1 text) ≡ l → lookSays l ≡ firstSays units text
+  says l e = ap lookSays (sym e) ∙ sym (says-look units text some-there)
 
-  pub first-high : 0xDFFF < getD text 0 0 → getD text 0 0 ≤ 0xFFFF → first (Whole 1) ≡ firstSays units text
-  unfolding units rows
-  first-high h k = sym (says-look units text some-there ∙ rw (begun-row (take 2 rows) (record { lead = 0xE000 to 0xFFFF; later = [] }) [] (getD text 0 0) (omega arith) (omega arith) (omega arith)))
+  pub reads-whole : (getD text 0 0 < 0xD800) ⊎ ((0xDFFF < getD text 0 0) × (getD text 0 0 ≤ 0xFFFF)) → first (Whole 1) ≡ firstSays units text
+  reads-whole h = says (record { more = 0; tag = whole; sure = true }) (unit-whole (getD text 0 0) (drop 1 text) h)
 
-  -- a second half
-  pub first-second : 0xDBFF < getD text 0 0 → getD text 0 0 ≤ 0xDFFF → first (Damage 1) ≡ firstSays units text
-  unfolding units rows
-  first-second h k = sym (says-look units text some-there ∙ rw (begun-none (take 2 rows) (drop 2 rows) (getD text 0 0) (omega arith) (omega arith)))
+  pub reads-second : SecondHalf (getD text 0 0) → first (Damage 1) ≡ firstSays units text
+  reads-second h = says lone (second-alone (getD text 0 0) (drop 1 text) h)
 
   -- a first half: what follows decides
-  module _ (h : 0xD800 ≤ getD text 0 0) (k : getD text 0 0 ≤ 0xDBFF) where
-    half : begun rows (getD text 0 0) ≡ some (second ∷ [])
-    unfolding rows
-    half = begun-row (take 1 rows) (record { lead = 0xD800 to 0xDBFF; later = second ∷ [] }) (drop 2 rows) (getD text 0 0) (omega arith) (omega arith) (omega arith)
+  module _ (h : FirstHalf (getD text 0 0)) where
+    pub reads-ended : length text < 2 → first (Begun 1) ≡ firstSays units text
+    reads-ended e =
+        let n : length text ≤ 1 = omega arith in
+        says (record { more = 0; tag = damage; sure = false }) (rw (drop-of-length-le text n) (first-ended (getD text 0 0) h))
 
-    pub first-ended : length text < 2 → first (Begun 1) ≡ firstSays units text
-    unfolding units
-    first-ended e = sym (says-look units text some-there ∙ rw (half, want-ended second [] text 1 (omega arith)))
+    pub reads-stopped : 1 < length text → (SecondHalf (getD text 1 0) → ⊥) → first (Damage 1) ≡ firstSays units text
+    reads-stopped e o = says lone (rw (drop-cons text 1 0 e) (first-stopped (getD text 0 0) (getD text 1 0) (drop 2 text) h o))
 
-    pub first-under : 1 < length text → getD text 1 0 < 0xDC00 → first (Damage 1) ≡ firstSays units text
-    unfolding units
-    first-under e o = sym (says-look units text some-there ∙ rw (half, want-stopped second [] text 1 e (in-under second (getD text 1 0) o)))
-
-    pub first-over : 1 < length text → 0xDFFF < getD text 1 0 → first (Damage 1) ≡ firstSays units text
-    unfolding units
-    first-over e o = sym (says-look units text some-there ∙ rw (half, want-stopped second [] text 1 e (in-over second (getD text 1 0) o)))
-
-    pub first-pair : 1 < length text → 0xDC00 ≤ getD text 1 0 → getD text 1 0 ≤ 0xDFFF → first (Whole 2) ≡ firstSays units text
-    unfolding units
-    first-pair e o p = sym (says-look units text some-there ∙ rw (half, want-next second [] text 1 e (in-yes second (getD text 1 0) o p)))
+    pub reads-pair : 1 < length text → SecondHalf (getD text 1 0) → first (Whole 2) ≡ firstSays units text
+    reads-pair e o =
+        says (record { more = 1; tag = whole; sure = true }) (ap (units (getD text 0 0)) (drop-cons text 1 0 e) ∙ pair-whole (getD text 0 0) _ (h, o))

@@ -66,7 +66,7 @@ whole-sure = table-whole rows
 
 -- ---- THE PAPER'S WORDS: the segment that is read is the one that stands there, and any text divides in exactly one way
 
-rows-sound : Sound zero rows
+pub rows-sound : Sound zero rows
 unfolding rows
 rows-sound = is-sound zero rows refl
 
