@@ -9,14 +9,14 @@ use mathlib.Core.List.{List, [], _∷_, _++_}
 use lib.ListN.{length, take, drop}
 use lib.Seq.{length-take-le}
 use lib.Dec.{leb}
-use borrow.Author.Tests.{leb-true, le-leb}
+use borrow.Author.Tests.{leb-true}
 use native.Mathlib.Omega.{arith}
-use Rattle.division.specs.Reader.{Look, Segment, body, first, cut}
+use Rattle.division.specs.Reader.{Look, Segment, first, cut}
 use Rattle.division.specs.Tally.{size}
 use Rattle.division.specs.Table.{Range, within, Row, Kind, whole, damage, longer, want, lone, read}
-use Rattle.division.specs.Sequence.{Matches, Sequence, Whole, Begun, Longest, Damage, Stands, Divides}
+use Rattle.division.specs.Sequence.{Matches, Sequence, Whole, Begun, Stands, Divides}
 use Rattle.division.proofs.Cases.{split, both}
-use Rattle.division.proofs.Dividing.{cut-nil, cut-cons, by-segments, first-size}
+use Rattle.division.proofs.Dividing.{cut-nil, cut-cons, by-segments}
 use Rattle.division.proofs.Tabling.{in-range, in-yes, want-fits, table-division}
 
 -- no range is empty

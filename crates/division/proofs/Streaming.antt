@@ -1,10 +1,10 @@
 -- That the cutting of a text into pieces does not matter, over any division and any action of a segment.
 -- Assumes nothing.
-use mathlib.Core.Path.{_≡_, refl, ap, _∙_}
+use mathlib.Core.Path.{_≡_, ap, _∙_}
 use Prim.Native.Nat.{ℕ}
 use mathlib.Core.Bool.{true}
 use mathlib.Core.List.{List, [], _∷_, _++_, append-assoc, append-nil, foldl, foldl-append}
-use Rattle.division.specs.Reader.{Reader, Segment, cut, parts, pending}
+use Rattle.division.specs.Reader.{Reader, Segment, cut, pending}
 use Rattle.division.specs.Stream.{join, State, fresh, after, feed, feeds, finish}
 use Rattle.division.proofs.Dividing.{Division, parts-nil, parts-append, cut-parts, parts-pending}
 

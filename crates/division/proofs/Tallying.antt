@@ -6,7 +6,7 @@ use native.Mathlib.Nat.{zero-add, add-zero, add-assoc, mul-suc, mul-zero, mul-on
 use mathlib.Core.Bool.{Bool, true, false, cond}
 use mathlib.Core.List.{List, [], _∷_, _++_, append-assoc, append-nil, foldl}
 use lib.ListN.{length, take, set, length-append}
-use lib.Seq.{sets, take-nil, length-take-le}
+use lib.Seq.{sets, take-nil}
 use lib.Dec.{ltb}
 use borrow.Author.Tests.{ltb-true, ltb-false}
 use native.Mathlib.Omega.{arith}

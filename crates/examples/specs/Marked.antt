@@ -6,7 +6,7 @@ use mathlib.Core.List.{List, [], _∷_}
 use Rattle.division.specs.Tally.{written}
 use Rattle.division.specs.Reader.{Reader, cut}
 use Rattle.division.specs.Table.{Kind}
-use Rattle.division.specs.Place.{Found, at, inside, past, places, plain}
+use Rattle.division.specs.Place.{Found, inside, past, places, plain}
 use Rattle.division.specs.Index.{index}
 use Rattle.terms.specs.Form.{Form, pointOf, repaired, converted}
 use Rattle.terms.specs.Strict.{damages, checkSays}

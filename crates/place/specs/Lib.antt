@@ -1,1 +1,3 @@
 pub mod Measures
+pub mod Cutting
+pub mod Lookup

@@ -8,7 +8,7 @@ use lib.ListN.{length, getD, drop}
 use lib.Dec.{ltb, eqb}
 use Rattle.division.specs.Tally.{Entry}
 use Rattle.division.specs.Table.{Kind}
-use Rattle.terms.specs.Form.{Form, repaired, converted}
+use Rattle.terms.specs.Form.{Form, converted}
 use Rattle.terms.specs.Strict.{damages, strictly, limited}
 use Rattle.terms.specs.Told.{written}
 use Rattle.terms.specs.declared.Written.{Written}

@@ -1,8 +1,7 @@
 -- UTF-8: the well-formed byte sequences of the Unicode Standard, table 3-7, and the reader of byte texts.
 -- Assumes nothing.
-use Prim.Native.Nat.{ℕ}
 use mathlib.Core.List.{List, [], _∷_}
-use Rattle.division.specs.Reader.{Look, Reader}
+use Rattle.division.specs.Reader.{Reader}
 use Rattle.division.specs.Table.{Range, _to_, Row, Kind, read}
 
 abbrev pub row : Range → List Range → Row

@@ -1,0 +1,31 @@
+-- Plain lookup, in the numbers of the refusals.
+-- Assumes nothing.
+use Prim.Native.Nat.{ℕ}
+use mathlib.Core.List.{List, [], _∷_}
+use Rattle.division.specs.Place.{Found, at, inside, past, unusable, plain}
+use Rattle.terms.specs.Strict.{limited}
+use Rattle.terms.specs.Told.{refusal}
+use Rattle.utf8.specs.Bytes.{bytes}
+use Rattle.place.specs.Measures.{ruler}
+use Rattle.place.specs.declared.Place.{Place}
+use Rattle.place.specs.declared.Placed.{Placed}
+use Rattle.place.specs.declared.Placed.the-variants.{At, Refused}
+
+-- a place's four counts
+abbrev pub counts : Place → List ℕ
+counts p = p .bytes ∷ p .units ∷ p .points ∷ p .lines ∷ []
+
+-- 0 and the four counts of a place, or the refusal's number and value
+abbrev pub placed : Placed → List ℕ
+placed (At p) = 0 ∷ counts p
+placed (Refused r) = refusal r
+
+abbrev pub foundSays : Found Place → List ℕ
+foundSays (at p) = 0 ∷ counts p
+foundSays past = 4 ∷ []
+foundSays inside = 5 ∷ []
+foundSays (unusable k) = 6 ∷ k ∷ []
+
+-- PLAIN LOOKUP: refusal 2, then the place that counts the offset, 5 where it lies inside a segment, 4 past the end
+abbrev pub lookupSays : (Place → ℕ) → ℕ → List ℕ → List ℕ
+lookupSays measure offset text = limited text (foundSays (plain bytes ruler measure offset text))
