@@ -58,10 +58,10 @@ pub told-first : (a b : First) → first a ≡ first b → a ≡ b
 told-first = by-back first backFirst first-back
 
 -- a refusal's number is not 0, so that it is told from what is granted
-abbrev number : Refusal → ℕ
+abbrev pub number : Refusal → ℕ
 number r = getD (refusal r) 0 0
 
-no-zero : (r : Refusal) → eqb (number r) 0 ≡ false
+pub no-zero : (r : Refusal) → eqb (number r) 0 ≡ false
 no-zero (Damaged start length) = refl
 no-zero OverLimit = refl
 no-zero (NoRoom needed) = refl

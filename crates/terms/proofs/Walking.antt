@@ -11,11 +11,11 @@ use native.Mathlib.Omega.{arith}
 use Rattle.division.specs.Reader.{Reader, Segment, body, cut}
 use Rattle.division.specs.Reader as reader
 use Rattle.division.specs.Table.{Kind, whole, damage, isDamage}
-use Rattle.division.specs.Tally.{size, entries}
+use Rattle.division.specs.Tally.{size, Entry, entries}
 use Rattle.division.proofs.Dividing.{Division, first-size, cut-nil, cut-cons}
 use Rattle.terms.specs.Limits.{limit}
 use Rattle.terms.specs.Told.{first, sizeOf, bit, lookSays, firstSays}
-use Rattle.terms.specs.Strict.{damages, checkSays}
+use Rattle.terms.specs.Strict.{damages, strictly, limited}
 use Rattle.terms.specs.declared.First.{First}
 use Rattle.terms.specs.declared.First.the-variants.{Nothing, Whole, Damage, Begun}
 
@@ -137,14 +137,15 @@ module _ {look : Reader Kind} (text : List ℕ) (at : ℕ) (c : Clean look text 
   pub clean-whole : (n : ℕ) → Turn look text at n whole → Clean look text (at + n)
   clean-whole n t = record { inside = t .inside; same = c .same ∙ rw (t .cuts, t .kind-is, t .size-is) }
 
-  -- what is told at the end, and at the first damage
-  module _ (h : length text ≤ limit) where
-    pub check-end : drop at text ≡ [] → 0 ∷ [] ≡ checkSays look text
+  -- what is told at the end, and at the first damage, whatever is granted and however damage is refused
+  module _ (refuse : Entry Kind → List ℕ) (granted : List ℕ) (h : length text ≤ limit) where
+    pub check-end : drop at text ≡ [] → granted ≡ limited text (strictly refuse (damages look text) granted)
     check-end e = let d : damages look text ≡ [] = c .same ∙ rw (e, cut-nil) in rw (le-ltb limit (length text) h, d)
 
-    pub check-damage : (n : ℕ) → Turn look text at n damage → 1 ∷ at ∷ n ∷ [] ≡ checkSays look text
+    pub check-damage : (n : ℕ) → Turn look text at n damage
+        → refuse (record { start = at; long = n; tag = damage }) ≡ limited text (strictly refuse (damages look text) granted)
     check-damage n t = rw (le-ltb limit (length text) h, c .same, t .cuts, t .kind-is, t .size-is)
 
 -- refusal 2 goes before
-pub check-over : (look : Reader Kind) (text : List ℕ) → limit < length text → 2 ∷ [] ≡ checkSays look text
-check-over look text h = rw (lt-ltb limit (length text) h)
+pub check-over : (text granted : List ℕ) → limit < length text → 2 ∷ [] ≡ limited text granted
+check-over text granted h = rw (lt-ltb limit (length text) h)

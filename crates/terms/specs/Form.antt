@@ -2,11 +2,11 @@
 -- Assumes nothing.
 use Prim.Native.Nat.{ℕ}
 use mathlib.Core.Bool.{Bool, cond, _&&_, _||_}
-use mathlib.Core.List.{List}
+use mathlib.Core.List.{List, [], _∷_}
 use lib.Dec.{ltb}
-use Rattle.division.specs.Reader.{Reader, Segment, body, cut}
+use Rattle.division.specs.Reader.{Reader, Segment, body, first, cut}
 use Rattle.division.specs.Table.{Kind, isDamage}
-use Rattle.division.specs.Tally.{written}
+use Rattle.division.specs.Tally.{written, size}
 
 -- 0 to D7FF, or E000 to 10FFFF
 abbrev pub isScalar : ℕ → Bool
@@ -35,3 +35,8 @@ pointOf F s = cond (isDamage (s .tag)) replacement (F .value (body s))
 
 abbrev pub converted : Form → Form → List ℕ → List ℕ
 converted F G text = written (λ s. G .write (pointOf F s)) (cut (F .look) text)
+
+-- WHAT A READER OF CODE POINTS TELLS of a text: the code point that stands first and how many elements it takes
+abbrev pub pointSays : Form → List ℕ → List ℕ
+pointSays F [] = 0 ∷ 0 ∷ []
+pointSays F (x ∷ xs) = pointOf F (first (F .look) x xs) ∷ size (first (F .look) x xs) ∷ []

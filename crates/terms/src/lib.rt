@@ -36,6 +36,13 @@ impl First {
     }
 }
 
+// The code point that stands first in a text, U+FFFD for damage, and how many elements it takes; both are 0 where the text is
+// empty.
+pub struct Point {
+    pub number: u32,
+    pub size: usize,
+}
+
 // Why a call refuses, in the order of the numbers 1 to 9.
 pub enum Refusal {
     Damaged { start: usize, length: usize },

@@ -2,11 +2,14 @@
 -- Assumes nothing.
 use Prim.Native.Nat.{_-_}
 use mathlib.Core.Path.{_∙_}
+use mathlib.Core.List.{[], _∷_}
 use lib.ListN.{length}
 use native.Mathlib.Omega.{arith}
 use borrow.Author.Needs.{needs}
 use Rattle.division.specs.Table.{whole}
-use Rattle.terms.proofs.Walking.{Turn, turn-whole, turn-damage, turn-begun, turn-end, Clean, clean-start, clean-whole, check-over, check-end, check-damage}
+use Rattle.terms.specs.Strict.{damaged}
+use Rattle.terms.proofs.Walking.{Turn, turn-whole, turn-damage, turn-begun, turn-end}
+use Rattle.terms.proofs.Walking.{Clean, clean-start, clean-whole, check-over, check-end, check-damage}
 use Rattle.utf16.specs.Units.{units}
 use Rattle.utf16.proofs.Rows.{units-division}
 use Rattle.utf16.proofs.check.Statement.{statement}
@@ -19,7 +22,7 @@ abbrev μ-loop : tie.MeasureT-loop
 μ-loop text at₀ at = length text - at
 
 returns : tie.Need-returns Inv-loop μ-loop
-returns c = check-over units (c .before .before .args .text .now) (c .if1 .taken)
+returns c = check-over (c .before .before .args .text .now) _ (c .if1 .taken)
 
 loop-holds : tie.Need-loop-holds Inv-loop μ-loop
 loop-holds c = clean-start units (c .before .before .args .text .now)
@@ -47,7 +50,7 @@ returns-2 c =
     let g = c .before .before in
     let l = g .before .before in
     let text = l .before .before .before .args .text .now in
-    check-end text (l .loop .at) (l .loop .inv) (l .before .if1 .left)
+    check-end text (l .loop .at) (l .loop .inv) damaged (0 ∷ []) (l .before .if1 .left)
     (turn-end units-division text (l .loop .at) (l .loop .inv .inside) _ (g .segment .ensures) (c .enum-told .given .1))
 
 enum-known-n : tie.Need-enum-known-n Inv-loop μ-loop
@@ -86,7 +89,7 @@ returns-3 c =
     let l = g .before .before in
     let text = l .before .before .before .args .text .now in
     c .damaged .ensures
-    ∙ check-damage text (l .loop .at) (l .loop .inv) (l .before .if1 .left) _
+    ∙ check-damage text (l .loop .at) (l .loop .inv) damaged (0 ∷ []) (l .before .if1 .left) _
     (turn-damage units-division text (l .loop .at) (l .loop .inv .inside) _ (g .segment .ensures) _ (c .before .before .n2 .given .1))
 
 enum-known-n-3 : tie.Need-enum-known-n-3 Inv-loop μ-loop
@@ -101,7 +104,7 @@ returns-4 c =
     let l = g .before .before in
     let text = l .before .before .before .args .text .now in
     c .damaged2 .ensures
-    ∙ check-damage text (l .loop .at) (l .loop .inv) (l .before .if1 .left) _
+    ∙ check-damage text (l .loop .at) (l .loop .inv) damaged (0 ∷ []) (l .before .if1 .left) _
     (turn-begun units-division text (l .loop .at) (l .loop .inv .inside) _ (g .segment .ensures) _ (c .before .before .n3 .given .1))
 
 pub check-spec : {M : Type 1} → statement M
