@@ -1,12 +1,13 @@
 -- What makes a form faithful: what is encoded is read as itself and decoded to the same number, and the other way round.
 -- Assumes nothing.
 use mathlib.Core.Path.{_≡_, refl, subst}
-use mathlib.Core.Logic.{_⊎_, inl, inr}
+use mathlib.Core.Logic.{_⊎_, inl, inr, ⊎-elim}
 use Prim.Native.Nat.{ℕ, zero, _<_}
 use mathlib.Core.Bool.{Bool, true, false, _||_}
 use mathlib.Core.List.{List, [], _∷_, _++_}
 use lib.Dec.{ltb}
 use borrow.Author.Tests.{ltb-true, lt-ltb}
+use native.Mathlib.Omega.{arith}
 use Rattle.division.specs.Reader.{Reader, Segment, body, first, cut}
 use Rattle.division.specs.Table.{Row, Kind, whole, read}
 use Rattle.division.specs.Sequence.{Sequence}
@@ -31,6 +32,9 @@ pub of-scalar : (c : ℕ) → isScalar c ≡ true → (c < 0xD800) ⊎ ((0xDFFF 
 of-scalar c s = split (ltb c 0xD800)
     (λ e. inl (ltb-true _ _ e))
     (λ e. let b = both (ltb 0xDFFF c) (ltb c 0x110000) (rw e at s) in inr (ltb-true _ _ (b .0), ltb-true _ _ (b .1)))
+
+pub scalar-top : (c : ℕ) → isScalar c ≡ true → c < 0x110000
+scalar-top c s = ⊎-elim (λ h. omega arith) (λ h. h .1) (of-scalar c s)
 
 -- ---- faithful forms
 

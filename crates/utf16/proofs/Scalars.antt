@@ -19,13 +19,13 @@ use Rattle.utf16.proofs.Rows.{rows-sound}
 -- ---- the units of a number
 
 module _ (c : ℕ) where
-  abbrev two : List ℕ
+  abbrev pub two : List ℕ
   two = (0xD800 + (c - 0x10000) / 0x400) ∷ (0xDC00 + (c - 0x10000) % 0x400) ∷ []
 
-  is-one : c < 0x10000 → pair c ≡ c ∷ []
+  pub is-one : c < 0x10000 → pair c ≡ c ∷ []
   is-one h = rw (lt-ltb c 0x10000 h)
 
-  is-two : 0x10000 ≤ c → pair c ≡ two
+  pub is-two : 0x10000 ≤ c → pair c ≡ two
   is-two l = rw (le-ltb c 0x10000 l)
 
 -- ---- a scalar value is encoded by a row's units, and decoded again

@@ -20,25 +20,25 @@ use Rattle.utf8.proofs.Rows.{rows-sound}
 -- ---- the sequence of a number, by its length
 
 module _ (c : ℕ) where
-  abbrev two : List ℕ
+  abbrev pub two : List ℕ
   two = (0xC0 + c / 0x40) ∷ later c ∷ []
 
-  abbrev three : List ℕ
+  abbrev pub three : List ℕ
   three = (0xE0 + c / 0x1000) ∷ later (c / 0x40) ∷ later c ∷ []
 
-  abbrev four : List ℕ
+  abbrev pub four : List ℕ
   four = (0xF0 + c / 0x40000) ∷ later (c / 0x1000) ∷ later (c / 0x40) ∷ later c ∷ []
 
-  is-one : c < 0x80 → sequence c ≡ c ∷ []
+  pub is-one : c < 0x80 → sequence c ≡ c ∷ []
   is-one h = rw (lt-ltb c 0x80 h)
 
-  is-two : 0x80 ≤ c → c < 0x800 → sequence c ≡ two
+  pub is-two : 0x80 ≤ c → c < 0x800 → sequence c ≡ two
   is-two l h = rw (le-ltb c 0x80 l, lt-ltb c 0x800 h)
 
-  is-three : 0x800 ≤ c → c < 0x10000 → sequence c ≡ three
+  pub is-three : 0x800 ≤ c → c < 0x10000 → sequence c ≡ three
   is-three l h = rw (le-ltb c 0x80 (omega arith), le-ltb c 0x800 l, lt-ltb c 0x10000 h)
 
-  is-four : 0x10000 ≤ c → sequence c ≡ four
+  pub is-four : 0x10000 ≤ c → sequence c ≡ four
   is-four l = rw (le-ltb c 0x80 (omega arith), le-ltb c 0x800 (omega arith), le-ltb c 0x10000 l)
 
 -- ---- a scalar value is encoded by a sequence of some row, and decoded again
