@@ -1,16 +1,43 @@
 // The terms in which every call answers: the limits, what stands first in a text, and the refusals by their numbers.
 ghost use mathlib.Core.Path.{_≡_};
 ghost use mathlib.Core.List.{[], _∷_};
+ghost use Rattle.terms.specs.Limits.{freshOf};
 ghost use Rattle.terms.specs.Told.{sizeOf, checked};
 
-// The decoder of a text that comes in pieces. The limits belong to it.
-pub struct Decoder {}
+// The decoder of a byte text that comes in pieces: what it keeps between two pieces. The limits belong to it.
+pub struct Decoder {
+    // the pending bytes, unused ones 0, and how many there are
+    pub held: [u8; 3],
+    pub pending: usize,
+    // bytes taken, and of these the bytes in whole segments and in damage
+    pub taken: usize,
+    pub whole: usize,
+    pub damaged: usize,
+    // damages, and the most of them that the list has room for
+    pub count: usize,
+    pub room: usize,
+}
 
 impl Decoder {
     // The most bytes, units or code points that a text has.
     pub const LIMIT: usize = 16_777_216;
     // The most entries that a damage list has room for.
     pub const ROOM: usize = 4_096;
+
+    // The state before the first piece.
+    pub fn fresh(room: usize) -> Decoder
+        ensures { λ r. ⌜ r ≡ freshOf room ⌝ }
+    {
+        Decoder {
+            held: [0, 0, 0],
+            pending: 0,
+            taken: 0,
+            whole: 0,
+            damaged: 0,
+            count: 0,
+            room: room,
+        }
+    }
 }
 
 // What stands first in a text: nothing, as it is empty; a whole segment of so many elements; damage of so many; or damage
