@@ -1,8 +1,162 @@
-// From bytes.
-pub fn try_it(c: u32) -> usize
-    ensures { λ r. ⌜ r ≡ r ⌝ }
+// From UTF-8 bytes.
+use crate::Target;
+use terms::Checked;
+use terms::Decoder;
+use terms::Refusal;
+use terms::Written;
+ghost use mathlib.Core.Path.{_≡_};
+ghost use Prim.Native.Nat.{_≤_};
+ghost use lib.ListN.{length};
+ghost use Rattle.terms.specs.Limits.{limit};
+ghost use Rattle.terms.specs.Form.{repaired, converted};
+ghost use Rattle.terms.specs.Strict.{damaged};
+ghost use Rattle.terms.specs.Writing.{Writes, repairSays, convertSays};
+ghost use Rattle.utf8.specs.Scalar.{utf8};
+ghost use Rattle.utf16.specs.Scalar.{utf16};
+ghost use Rattle.points.specs.Points.{codes};
+ghost use Rattle.convert.specs.Target.{formOf};
+ghost use Rattle.convert.specs.Puts.{Puts};
+
+// How many places a text takes in another form.
+fn need(text: &[u8], target: Target) -> usize
+    requires { ⌜ length (now text) ≤ limit ⌝ }
+    ensures { λ r. ⌜ r ≡ length (converted utf8 (formOf target) (now (text .entry))) ⌝ }
 {
-    crate::bytes_of(c)
+    let mut at: usize = 0;
+    let mut total: usize = 0;
+    while at < text.len() {
+        let p = utf8::point(&text[at..]);
+        total += crate::places(target, p.number);
+        at += p.size;
+    }
+    total
 }
 
-ghost use mathlib.Core.Path.{_≡_};
+fn write_bytes(text: &[u8], out: &mut [u8]) -> usize
+    requires { ⌜ length (converted utf8 utf8 (now text)) ≤ length (now out) ⌝ }
+    ensures { λ r. ⌜ Puts (converted utf8 utf8 (now (text .entry))) (now (out .entry)) (now (out .exit)) r ⌝ }
+{
+    let mut at: usize = 0;
+    let mut done: usize = 0;
+    while at < text.len() {
+        let p = utf8::point(&text[at..]);
+        done += crate::put_bytes(&mut out[done..], p.number);
+        at += p.size;
+    }
+    done
+}
+
+fn write_units(text: &[u8], out: &mut [u16]) -> usize
+    requires { ⌜ length (converted utf8 utf16 (now text)) ≤ length (now out) ⌝ }
+    ensures { λ r. ⌜ Puts (converted utf8 utf16 (now (text .entry))) (now (out .entry)) (now (out .exit)) r ⌝ }
+{
+    let mut at: usize = 0;
+    let mut done: usize = 0;
+    while at < text.len() {
+        let p = utf8::point(&text[at..]);
+        done += crate::put_units(&mut out[done..], p.number);
+        at += p.size;
+    }
+    done
+}
+
+fn write_codes(text: &[u8], out: &mut [u32]) -> usize
+    requires { ⌜ length (converted utf8 codes (now text)) ≤ length (now out) ⌝ }
+    ensures { λ r. ⌜ Puts (converted utf8 codes (now (text .entry))) (now (out .entry)) (now (out .exit)) r ⌝ }
+{
+    let mut at: usize = 0;
+    let mut done: usize = 0;
+    while at < text.len() {
+        let p = utf8::point(&text[at..]);
+        done += crate::put_code(&mut out[done..], p.number);
+        at += p.size;
+    }
+    done
+}
+
+// Whole segments as they are, U+FFFD for each damage.
+pub fn repair(text: &[u8], out: &mut [u8]) -> Written
+    ensures { λ r. ⌜ Writes
+        (repairSays (length (now (out .entry))) (now (text .entry)) (repaired utf8 (now (text .entry))))
+        (repaired utf8 (now (text .entry)))
+        (now (out .entry))
+        (now (out .exit))
+        r ⌝ }
+{
+    if Decoder::LIMIT < text.len() {
+        return Written::Refused(Refusal::OverLimit);
+    }
+    let needed = need(text, Target::Bytes);
+    if out.len() < needed {
+        return Written::Refused(Refusal::NoRoom { needed });
+    }
+    Written::Count(write_bytes(text, out))
+}
+
+// In the other form, U+FFFD for each damage.
+pub fn repair_to_units(text: &[u8], out: &mut [u16]) -> Written
+    ensures { λ r. ⌜ Writes
+        (repairSays (length (now (out .entry))) (now (text .entry)) (converted utf8 utf16 (now (text .entry))))
+        (converted utf8 utf16 (now (text .entry)))
+        (now (out .entry))
+        (now (out .exit))
+        r ⌝ }
+{
+    if Decoder::LIMIT < text.len() {
+        return Written::Refused(Refusal::OverLimit);
+    }
+    let needed = need(text, Target::Units);
+    if out.len() < needed {
+        return Written::Refused(Refusal::NoRoom { needed });
+    }
+    Written::Count(write_units(text, out))
+}
+
+// In the other form, U+FFFD for each damage.
+fn repair_to_codes(text: &[u8], out: &mut [u32]) -> Written
+    ensures { λ r. ⌜ Writes
+        (repairSays (length (now (out .entry))) (now (text .entry)) (converted utf8 codes (now (text .entry))))
+        (converted utf8 codes (now (text .entry)))
+        (now (out .entry))
+        (now (out .exit))
+        r ⌝ }
+{
+    if Decoder::LIMIT < text.len() {
+        return Written::Refused(Refusal::OverLimit);
+    }
+    let needed = need(text, Target::Codes);
+    if out.len() < needed {
+        return Written::Refused(Refusal::NoRoom { needed });
+    }
+    Written::Count(write_codes(text, out))
+}
+
+// Strict: damage is refused.
+pub fn to_units(text: &[u8], out: &mut [u16]) -> Written
+    ensures { λ r. ⌜ Writes
+        (convertSays damaged utf8 utf16 (length (now (out .entry))) (now (text .entry)))
+        (converted utf8 utf16 (now (text .entry)))
+        (now (out .entry))
+        (now (out .exit))
+        r ⌝ }
+{
+    match utf8::check(text) {
+        Checked::WellFormed => repair_to_units(text, out),
+        Checked::Refused(r) => Written::Refused(r),
+    }
+}
+
+// Strict: damage is refused.
+pub fn to_codes(text: &[u8], out: &mut [u32]) -> Written
+    ensures { λ r. ⌜ Writes
+        (convertSays damaged utf8 codes (length (now (out .entry))) (now (text .entry)))
+        (converted utf8 codes (now (text .entry)))
+        (now (out .entry))
+        (now (out .exit))
+        r ⌝ }
+{
+    match utf8::check(text) {
+        Checked::WellFormed => repair_to_codes(text, out),
+        Checked::Refused(r) => Written::Refused(r),
+    }
+}

@@ -12,6 +12,8 @@ ghost use Rattle.convert.specs.Target.{formOf};
 ghost use Rattle.convert.specs.Puts.{Puts};
 
 pub mod bytes;
+pub mod points;
+pub mod units;
 
 // The form into which a text is converted.
 pub enum Target {

@@ -4,10 +4,10 @@ use mathlib.Core.Path.{_≡_}
 use Prim.Native.Nat.{ℕ, _+_, _*_}
 use mathlib.Core.Bool.{cond}
 use mathlib.Core.List.{List, [], _∷_}
-use lib.ListN.{length, getD}
-use lib.Dec.{ltb, eqb}
+use lib.ListN.{length}
+use lib.Dec.{ltb}
 use Rattle.terms.specs.Limits.{limit, mostRoom, freshOf}
-use Rattle.terms.specs.Told.{refusal, written}
+use Rattle.terms.specs.Told.{refusal, written, ifGranted}
 use Rattle.terms.specs.Writing.{roomed, outputOf}
 use Rattle.terms.specs.declared.Decoder.{Decoder}
 use Rattle.repair.specs.State.{sound, fed, ended, closed}
@@ -26,10 +26,6 @@ begun (the-begun.Refused r) = refusal r
 abbrev pub total : Total → List ℕ
 total (the-total.Given n whole damaged count) = 0 ∷ n ∷ whole ∷ damaged ∷ count ∷ []
 total (the-total.Refused r) = refusal r
-
--- what is granted where a number is 0
-abbrev pub ifGranted : {A : Type 0} → List ℕ → A → A → A
-ifGranted says new old = cond (eqb (getD says 0 0) 0) new old
 
 -- ---- START: refusal 7 where the room is over 4,096, with the fresh state of room 0
 

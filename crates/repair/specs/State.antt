@@ -1,8 +1,8 @@
 -- The decoder's state: its tests, and what it stands for while a text comes in pieces.
 -- Assumes nothing.
 use Prim.Native.Nat.{ℕ, _+_, _*_}
-use mathlib.Core.Bool.{Bool, true, _&&_}
-use mathlib.Core.List.{List, [], _∷_, _++_}
+use mathlib.Core.Bool.{Bool, _&&_}
+use mathlib.Core.List.{List, [], _∷_}
 use lib.ListN.{length, take, drop}
 use lib.Dec.{leb, eqb}
 use Rattle.division.specs.Reader.{Segment, pending}
@@ -14,15 +14,12 @@ use Rattle.terms.specs.Form.{mend}
 use Rattle.terms.specs.Limits.{limit, mostRoom}
 use Rattle.terms.specs.declared.Decoder.{Decoder}
 use Rattle.utf8.specs.Bytes.{bytes}
+use Rattle.utf8.specs.Pending.{zeros, padded}
 use Rattle.utf8.specs.Scalar.{utf8}
 
 -- the pending bytes
 abbrev pub left : Decoder → List ℕ
 left d = take (d .pending) (d .held)
-
-abbrev pub zeros : List ℕ → Bool
-zeros [] = true
-zeros (x ∷ xs) = eqb x 0 && zeros xs
 
 -- THE TESTS OF A STATE: at most 3 pending bytes, empty or a proper beginning of a well-formed sequence; unused ones 0; whole,
 -- damaged and pending bytes are those taken; taken within the limit; count ≤ damaged ≤ 3 × count; room at most 4,096
@@ -62,7 +59,7 @@ ended d list = stream.finish bytes (act (d .room)) (opened d list)
 -- the state that is handed back
 abbrev pub closed : Decoder → ℕ → State Log → Decoder
 closed d taken s = record {
-  held = take 3 (s .left ++ 0 ∷ 0 ∷ 0 ∷ []);
+  held = padded (s .left);
   pending = length (s .left);
   taken = taken;
   whole = s .kept .whole;

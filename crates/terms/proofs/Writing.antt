@@ -1,7 +1,8 @@
 -- The walk that writes, whatever is written: what it has counted and written when it has come to a place of the text.
 -- Assumes nothing.
 use mathlib.Core.Path.{_≡_, refl, sym, ap, _∙_}
-use Prim.Native.Nat.{ℕ, _+_, _-_, _≤_, _<_}
+use Prim.Native.Nat.{ℕ, suc, _+_, _-_, _≤_, _<_}
+use mathlib.Core.Bool.{true}
 use mathlib.Core.List.{List, [], _∷_, _++_, append-assoc, append-nil}
 use lib.ListN.{length, take, drop, length-append, length-drop, take-append-drop, drop-of-length-le}
 use lib.Seq.{drop-drop, take-at, drop-at, length-take-le}
@@ -10,33 +11,37 @@ use Rattle.division.specs.Reader.{Segment, cut}
 use Rattle.division.specs.Reader as reader
 use Rattle.division.specs.Table.{Kind}
 use Rattle.division.specs.Tally.{size}
-use Rattle.division.proofs.Dividing.{Division, first-size, cut-nil, cut-cons}
-use Rattle.terms.specs.Form.{Form, pointOf, converted, pointSays}
+use Rattle.division.proofs.Dividing.{first-size, cut-nil, cut-cons}
+use Rattle.terms.specs.Form.{isScalar, Form, pointOf, converted, pointSays}
 use Rattle.terms.proofs.Walking.{part-is}
+use Rattle.terms.proofs.Forms.{Faithful}
+use Rattle.terms.proofs.Converting.{point-scalar}
 
 -- A TURN at a place: the code point there takes n elements, and the walk goes on behind them
 pub record Met (F : Form) (text : List ℕ) (at n c : ℕ) : Type 0 where
   pub segment : Segment Kind
   pub point-is : pointOf F segment ≡ c
+  pub scalar : isScalar c ≡ true
   pub some : 0 < n
   pub inside : at + n ≤ length text
   pub cuts : cut (F .look) (drop at text) ≡ segment ∷ cut (F .look) (drop (at + n) text)
 
-pub met : (F : Form) → Division (F .look) → (text : List ℕ) (at : ℕ) → at < length text → (n c : ℕ)
+pub met : {F : Form} → Faithful F → (text : List ℕ) (at : ℕ) → at < length text → (n c : ℕ)
     → c ∷ n ∷ [] ≡ pointSays F (take (length text - at) (drop at text)) → Met F text at n c
-met F D text at h n c told = go (drop at text) refl (rw part-is at told)
+met {F} f text at h n c told = go (drop at text) refl (rw part-is at told)
   where
     go : (t : List ℕ) → drop at text ≡ t → c ∷ n ∷ [] ≡ pointSays F t → Met F text at n c
     go [] e q = let z : length text - at ≡ 0 = sym (length-drop at text) ∙ ap length e in absurd (omega arith)
     go (x ∷ xs) e q =
         let l : length text - at ≡ length (x ∷ xs) = sym (length-drop at text) ∙ ap length e in
         let s : n ≡ size (reader.first (F .look) x xs) = cc in
-        let f = first-size D x xs in
-        let g = D .fits x xs in
-        let m : n ≡ Prim.Native.Nat.suc (F .look x xs .more) = s ∙ f in
+        let g = f .division .fits x xs in
+        let m : n ≡ suc (F .look x xs .more) = s ∙ first-size (f .division) x xs in
+        let p : pointOf F (reader.first (F .look) x xs) ≡ c = cc in
         record {
           segment = reader.first (F .look) x xs;
-          point-is = cc;
+          point-is = p;
+          scalar = rw (← p) (point-scalar f x xs);
           some = omega arith;
           inside = omega arith;
           cuts = rw (← drop-drop n at text, e, m) (cut-cons (F .look) x xs);

@@ -3,6 +3,8 @@
 use Prim.Native.Nat.{ℕ, suc}
 use mathlib.Core.Bool.{Bool, cond}
 use mathlib.Core.List.{List, [], _∷_}
+use lib.ListN.{getD}
+use lib.Dec.{eqb}
 use Rattle.division.specs.Reader.{Look, Reader}
 use Rattle.division.specs.Table.{Kind, isDamage}
 use Rattle.terms.specs.declared.First.{First}
@@ -59,3 +61,7 @@ lookSays l = bit (isDamage (l .tag)) ∷ suc (l .more) ∷ bit (l .sure) ∷ []
 abbrev pub firstSays : Reader Kind → List ℕ → List ℕ
 firstSays look [] = []
 firstSays look (x ∷ xs) = lookSays (look x xs)
+
+-- what stands where an answer grants, and what stands where it refuses
+abbrev pub ifGranted : {A : Type 0} → List ℕ → A → A → A
+ifGranted says new old = cond (eqb (getD says 0 0) 0) new old

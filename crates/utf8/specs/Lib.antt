@@ -1,3 +1,4 @@
 pub mod Bytes
 pub mod Lead
 pub mod Scalar
+pub mod Pending

@@ -1,0 +1,162 @@
+// From UTF-16 units.
+use crate::Target;
+use terms::Checked;
+use terms::Decoder;
+use terms::Refusal;
+use terms::Written;
+ghost use mathlib.Core.Path.{_≡_};
+ghost use Prim.Native.Nat.{_≤_};
+ghost use lib.ListN.{length};
+ghost use Rattle.terms.specs.Limits.{limit};
+ghost use Rattle.terms.specs.Form.{repaired, converted};
+ghost use Rattle.terms.specs.Strict.{damaged};
+ghost use Rattle.terms.specs.Writing.{Writes, repairSays, convertSays};
+ghost use Rattle.utf8.specs.Scalar.{utf8};
+ghost use Rattle.utf16.specs.Scalar.{utf16};
+ghost use Rattle.points.specs.Points.{codes};
+ghost use Rattle.convert.specs.Target.{formOf};
+ghost use Rattle.convert.specs.Puts.{Puts};
+
+// How many places a text takes in another form.
+fn need(text: &[u16], target: Target) -> usize
+    requires { ⌜ length (now text) ≤ limit ⌝ }
+    ensures { λ r. ⌜ r ≡ length (converted utf16 (formOf target) (now (text .entry))) ⌝ }
+{
+    let mut at: usize = 0;
+    let mut total: usize = 0;
+    while at < text.len() {
+        let p = utf16::point(&text[at..]);
+        total += crate::places(target, p.number);
+        at += p.size;
+    }
+    total
+}
+
+fn write_bytes(text: &[u16], out: &mut [u8]) -> usize
+    requires { ⌜ length (converted utf16 utf8 (now text)) ≤ length (now out) ⌝ }
+    ensures { λ r. ⌜ Puts (converted utf16 utf8 (now (text .entry))) (now (out .entry)) (now (out .exit)) r ⌝ }
+{
+    let mut at: usize = 0;
+    let mut done: usize = 0;
+    while at < text.len() {
+        let p = utf16::point(&text[at..]);
+        done += crate::put_bytes(&mut out[done..], p.number);
+        at += p.size;
+    }
+    done
+}
+
+fn write_units(text: &[u16], out: &mut [u16]) -> usize
+    requires { ⌜ length (converted utf16 utf16 (now text)) ≤ length (now out) ⌝ }
+    ensures { λ r. ⌜ Puts (converted utf16 utf16 (now (text .entry))) (now (out .entry)) (now (out .exit)) r ⌝ }
+{
+    let mut at: usize = 0;
+    let mut done: usize = 0;
+    while at < text.len() {
+        let p = utf16::point(&text[at..]);
+        done += crate::put_units(&mut out[done..], p.number);
+        at += p.size;
+    }
+    done
+}
+
+fn write_codes(text: &[u16], out: &mut [u32]) -> usize
+    requires { ⌜ length (converted utf16 codes (now text)) ≤ length (now out) ⌝ }
+    ensures { λ r. ⌜ Puts (converted utf16 codes (now (text .entry))) (now (out .entry)) (now (out .exit)) r ⌝ }
+{
+    let mut at: usize = 0;
+    let mut done: usize = 0;
+    while at < text.len() {
+        let p = utf16::point(&text[at..]);
+        done += crate::put_code(&mut out[done..], p.number);
+        at += p.size;
+    }
+    done
+}
+
+// In the other form, U+FFFD for each damage.
+pub fn repair_to_bytes(text: &[u16], out: &mut [u8]) -> Written
+    ensures { λ r. ⌜ Writes
+        (repairSays (length (now (out .entry))) (now (text .entry)) (converted utf16 utf8 (now (text .entry))))
+        (converted utf16 utf8 (now (text .entry)))
+        (now (out .entry))
+        (now (out .exit))
+        r ⌝ }
+{
+    if Decoder::LIMIT < text.len() {
+        return Written::Refused(Refusal::OverLimit);
+    }
+    let needed = need(text, Target::Bytes);
+    if out.len() < needed {
+        return Written::Refused(Refusal::NoRoom { needed });
+    }
+    Written::Count(write_bytes(text, out))
+}
+
+// Whole segments as they are, U+FFFD for each damage.
+pub fn repair(text: &[u16], out: &mut [u16]) -> Written
+    ensures { λ r. ⌜ Writes
+        (repairSays (length (now (out .entry))) (now (text .entry)) (repaired utf16 (now (text .entry))))
+        (repaired utf16 (now (text .entry)))
+        (now (out .entry))
+        (now (out .exit))
+        r ⌝ }
+{
+    if Decoder::LIMIT < text.len() {
+        return Written::Refused(Refusal::OverLimit);
+    }
+    let needed = need(text, Target::Units);
+    if out.len() < needed {
+        return Written::Refused(Refusal::NoRoom { needed });
+    }
+    Written::Count(write_units(text, out))
+}
+
+// In the other form, U+FFFD for each damage.
+fn repair_to_codes(text: &[u16], out: &mut [u32]) -> Written
+    ensures { λ r. ⌜ Writes
+        (repairSays (length (now (out .entry))) (now (text .entry)) (converted utf16 codes (now (text .entry))))
+        (converted utf16 codes (now (text .entry)))
+        (now (out .entry))
+        (now (out .exit))
+        r ⌝ }
+{
+    if Decoder::LIMIT < text.len() {
+        return Written::Refused(Refusal::OverLimit);
+    }
+    let needed = need(text, Target::Codes);
+    if out.len() < needed {
+        return Written::Refused(Refusal::NoRoom { needed });
+    }
+    Written::Count(write_codes(text, out))
+}
+
+// Strict: damage is refused.
+pub fn to_bytes(text: &[u16], out: &mut [u8]) -> Written
+    ensures { λ r. ⌜ Writes
+        (convertSays damaged utf16 utf8 (length (now (out .entry))) (now (text .entry)))
+        (converted utf16 utf8 (now (text .entry)))
+        (now (out .entry))
+        (now (out .exit))
+        r ⌝ }
+{
+    match utf16::check(text) {
+        Checked::WellFormed => repair_to_bytes(text, out),
+        Checked::Refused(r) => Written::Refused(r),
+    }
+}
+
+// Strict: damage is refused.
+pub fn to_codes(text: &[u16], out: &mut [u32]) -> Written
+    ensures { λ r. ⌜ Writes
+        (convertSays damaged utf16 codes (length (now (out .entry))) (now (text .entry)))
+        (converted utf16 codes (now (text .entry)))
+        (now (out .entry))
+        (now (out .exit))
+        r ⌝ }
+{
+    match utf16::check(text) {
+        Checked::WellFormed => repair_to_codes(text, out),
+        Checked::Refused(r) => Written::Refused(r),
+    }
+}

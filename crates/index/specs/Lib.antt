@@ -1,0 +1,3 @@
+pub mod Checkpoints
+pub mod Building
+pub mod Looking
