@@ -1,1 +1,3 @@
 pub mod Putting
+pub mod Counting
+pub mod Rounds

@@ -11,9 +11,9 @@ ghost use Rattle.points.specs.Points.{codes};
 ghost use Rattle.convert.specs.Target.{formOf};
 ghost use Rattle.convert.specs.Puts.{Puts};
 
-pub mod bytes;
-pub mod points;
-pub mod units;
+pub mod from_bytes;
+pub mod from_points;
+pub mod from_units;
 
 // The form into which a text is converted.
 pub enum Target {

@@ -1,12 +1,14 @@
-// Code points: the segment that stands first in a text of numbers, and the strict check.
+// Code points: the segment and the code point that stand first in a text of numbers, and the strict check.
 use terms::Checked;
 use terms::Decoder;
 use terms::First;
+use terms::Point;
 use terms::Refusal;
 ghost use mathlib.Core.Path.{_≡_};
-ghost use Rattle.terms.specs.Form.{isScalar};
+ghost use mathlib.Core.List.{[], _∷_};
+ghost use Rattle.terms.specs.Form.{isScalar, pointSays};
 ghost use Rattle.terms.specs.Told.{first, firstSays, checked};
-ghost use Rattle.points.specs.Points.{points, pointsSay};
+ghost use Rattle.points.specs.Points.{points, codes, pointsSay};
 
 // Is a number a scalar value?
 fn is_scalar(c: u32) -> bool
@@ -26,6 +28,27 @@ pub fn segment(text: &[u32]) -> First
         return First::Whole(1);
     }
     First::Damage(1)
+}
+
+// The code point that stands first in a text.
+pub fn point(text: &[u32]) -> Point
+    ensures { λ r. ⌜ r .number ∷ r .size ∷ [] ≡ pointSays codes (now (text .entry)) ⌝ }
+{
+    match segment(text) {
+        First::Nothing => Point { number: 0, size: 0 },
+        First::Whole(n) => Point {
+            number: text[0],
+            size: n,
+        },
+        First::Damage(n) => Point {
+            number: 0xFFFD,
+            size: n,
+        },
+        First::Begun(n) => Point {
+            number: 0xFFFD,
+            size: n,
+        },
+    }
 }
 
 // Is every number of a text a scalar value? If not, the position of the first that is none is told.

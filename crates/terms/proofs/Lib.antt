@@ -1,5 +1,6 @@
 pub mod Telling
 pub mod Walking
+pub mod Pointing
 pub mod Forms
 pub mod Converting
 pub mod Writing

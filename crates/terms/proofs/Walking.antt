@@ -32,14 +32,19 @@ pub says-look : (look : Reader Kind) (text : List ℕ) → 0 < length text → f
 says-look look [] e = absurd (omega arith)
 says-look look (x ∷ xs) e = refl
 
+-- nothing is told of the empty text alone
+pub nothing-seen : (look : Reader Kind) (text : List ℕ) → [] ≡ firstSays look text → text ≡ []
+nothing-seen look [] e = refl
+nothing-seen look (x ∷ xs) e = let z : _≡_ {A = ℕ} 0 1 = cc in absurd (omega arith)
+
 -- what was told of a text that is not empty, said of the look at it
-record Seen (look : Reader Kind) (text : List ℕ) (n : ℕ) (kind : Kind) (sure : Bool) : Type 0 where
-  head : ℕ
-  tail : List ℕ
-  text-is : text ≡ head ∷ tail
-  long-is : n ≡ suc (look head tail .more)
-  kind-is : look head tail .tag ≡ kind
-  sure-is : look head tail .sure ≡ sure
+pub record Seen (look : Reader Kind) (text : List ℕ) (n : ℕ) (kind : Kind) (sure : Bool) : Type 0 where
+  pub head : ℕ
+  pub tail : List ℕ
+  pub text-is : text ≡ head ∷ tail
+  pub long-is : n ≡ suc (look head tail .more)
+  pub kind-is : look head tail .tag ≡ kind
+  pub sure-is : look head tail .sure ≡ sure
 
 kind-of : (k j : Kind) → bit (isDamage k) ≡ bit (isDamage j) → k ≡ j
 kind-of whole whole e = refl
@@ -53,7 +58,8 @@ sure-of false false e = refl
 sure-of true false e = absurd (omega arith)
 sure-of false true e = absurd (omega arith)
 
-seen : (look : Reader Kind) (text : List ℕ) (n : ℕ) (kind : Kind) (sure : Bool) → bit (isDamage kind) ∷ n ∷ bit sure ∷ [] ≡ firstSays look text → Seen look text n kind sure
+pub seen : (look : Reader Kind) (text : List ℕ) (n : ℕ) (kind : Kind) (sure : Bool) → bit (isDamage kind) ∷ n ∷ bit sure ∷ [] ≡ firstSays look text
+    → Seen look text n kind sure
 seen look [] n kind sure e = let z : _≡_ {A = ℕ} 0 1 = cc in absurd (omega arith)
 seen look (x ∷ xs) n kind sure e = record {
   head = x;
@@ -108,11 +114,7 @@ module _ {look : Reader Kind} (D : Division look) (text : List ℕ) (at : ℕ) w
 
     -- the walk has come to the end
     pub turn-end : r ≡ Nothing → drop at text ≡ []
-    turn-end e = nothing-seen (drop at text) (told-as Nothing e)
-      where
-        nothing-seen : (t : List ℕ) → [] ≡ firstSays look t → t ≡ []
-        nothing-seen [] q = refl
-        nothing-seen (x ∷ xs) q = let z : _≡_ {A = ℕ} 0 1 = cc in absurd (omega arith)
+    turn-end e = nothing-seen look (drop at text) (told-as Nothing e)
 
     -- where there is text left, something stands first, and the walk goes on behind it
     pub turn-size : at < length text → (0 < sizeOf r) × (at + sizeOf r ≤ length text)

@@ -93,7 +93,7 @@ Put vs out out′ = out′ ≡ vs ++ drop (length vs) out
 
 -- ---- the writing: so much is written, and the rest of the text writes what is left
 
-module _ (F G : Form) (text out₀ : List ℕ) (room : length (converted F G text) ≤ length out₀) where
+module _ (F G : Form) (text out₀ : List ℕ) where
   pub record Wrote (out : List ℕ) (at n : ℕ) : Type 0 where
     pub inside : at ≤ length text
     pub long : length out ≡ length out₀
@@ -118,7 +118,7 @@ module _ (F G : Form) (text out₀ : List ℕ) (room : length (converted F G tex
         let t : take n out ≡ converted F G text = sym (append-nil (take n out)) ∙ rw e at (w .form) in
         (l, sym (take-append-drop n out) ∙ rw (t, w .kept, l))
 
-    module _ (k c : ℕ) (m : Met F text at k c) where
+    module _ (room : length (converted F G text) ≤ length out₀) (k c : ℕ) (m : Met F text at k c) where
       -- there is room for the next code point in the part that is lent
       pub wrote-room : length (G .write c) ≤ length (lent out n)
       wrote-room =

@@ -1,20 +1,24 @@
--- What the reader of units tells, from the tests that its code makes: a law for each of its arms.
+-- What the reader of units tells, from the tests that its code makes: a law for each of its arms; and what a whole segment is.
 -- Assumes nothing.
-use mathlib.Core.Path.{_≡_, sym, ap, _∙_}
+use mathlib.Core.Path.{_≡_, refl, sym, ap, _∙_}
 use mathlib.Core.Logic.{_⊎_}
 use Prim.Native.Nat.{ℕ, _≤_, _<_}
 use mathlib.Core.Bool.{true, false}
 use mathlib.Core.List.{List}
-use lib.ListN.{length, getD, drop, drop-of-length-le}
-use lib.Seq.{drop-cons}
+use lib.ListN.{length, getD, take, drop, drop-of-length-le}
+use lib.Seq.{length-take-le, drop-cons, getD-take}
 use native.Mathlib.Omega.{arith}
 use Rattle.division.specs.Reader.{Look}
 use Rattle.division.specs.Table.{Kind, whole, damage, lone}
+use Rattle.division.specs.Sequence.{Sequence}
+use Rattle.division.proofs.Matching.{by-rows, whole-sequence}
 use Rattle.terms.specs.Told.{first, lookSays, firstSays}
 use Rattle.terms.specs.declared.First.the-variants.{Whole, Damage, Begun}
 use Rattle.terms.proofs.Walking.{says-look}
-use Rattle.utf16.specs.Units.{units}
-use Rattle.utf16.proofs.Rows.{FirstHalf, SecondHalf, unit-whole, second-alone, first-ended, first-stopped, pair-whole}
+use Rattle.terms.proofs.Pointing.{Pointed}
+use Rattle.utf16.specs.Units.{rows, units}
+use Rattle.utf16.specs.Scalar.{utf16}
+use Rattle.utf16.proofs.Rows.{rows-sound, FirstHalf, SecondHalf, unit-whole, second-alone, first-ended, first-stopped, pair-whole}
 
 module _ (text : List ℕ) (some-there : 0 < length text) where
   says : (l : Look Kind) → units (getD text 0 0) (drop 1 text) ≡ l → lookSays l ≡ firstSays units text
@@ -39,3 +43,20 @@ module _ (text : List ℕ) (some-there : 0 < length text) where
     pub reads-pair : 1 < length text → SecondHalf (getD text 1 0) → first (Whole 2) ≡ firstSays units text
     reads-pair e o =
         says (record { more = 1; tag = whole; sure = true }) (ap (units (getD text 0 0)) (drop-cons text 1 0 e) ∙ pair-whole (getD text 0 0) _ (h, o))
+
+-- ---- a whole segment is one unit or a pair
+
+two-halves : (xs : List ℕ) → Sequence rows xs → 1 < length xs → (length xs ≡ 2) × FirstHalf (getD xs 0 0) × SecondHalf (getD xs 1 0)
+unfolding rows
+two-halves = by-rows rows (λ xs. 1 < length xs → (length xs ≡ 2) × FirstHalf (getD xs 0 0) × SecondHalf (getD xs 1 0))
+    (λ x a h. absurd (omega arith))
+    (λ x a y b h. (refl, a, b))
+    (λ x a h. absurd (omega arith))
+
+pub whole-pair : (text : List ℕ) (n : ℕ) → Pointed utf16 text n → 1 < n → (n ≡ 2) × FirstHalf (getD text 0 0) × SecondHalf (getD text 1 0)
+unfolding units
+whole-pair text n p h =
+    let s = p .seen-as in
+    let w : Sequence rows (take n text) = rw (s .text-is, s .long-is) (whole-sequence rows rows-sound (s .head) (s .tail) (s .kind-is)) in
+    let l : length (take n text) ≡ n = length-take-le n text (p .inside) in
+    omega (arith, two-halves (take n text) w (omega arith), getD-take n text 0 0 (omega arith), getD-take n text 1 0 h)

@@ -1,15 +1,20 @@
-// UTF-8: the segment that stands first in a byte text, and the strict check.
+// UTF-8: the segment and the code point that stand first in a byte text, and the strict check.
 use terms::Checked;
 use terms::Decoder;
 use terms::First;
+use terms::Point;
 use terms::Refusal;
 ghost use mathlib.Core.Path.{_≡_};
-ghost use lib.ListN.{drop};
+ghost use Prim.Native.Nat.{_≤_, _<_};
+ghost use mathlib.Core.List.{[], _∷_};
+ghost use lib.ListN.{length, take, drop};
 ghost use Rattle.division.specs.Table.{_to_, within, want, begun};
 ghost use Rattle.terms.specs.Told.{first, lookSays, firstSays, checked};
 ghost use Rattle.terms.specs.Strict.{checkSays};
+ghost use Rattle.terms.specs.Form.{pointSays};
 ghost use Rattle.utf8.specs.Bytes.{rows, bytes};
 ghost use Rattle.utf8.specs.Lead.{ranges, wanted};
+ghost use Rattle.utf8.specs.Scalar.{number, utf8};
 
 // What a first byte tells: no sequence begins with it; or one does, and wants so many bytes more, the next from low to high
 // and the others from 80 to BF.
@@ -72,6 +77,56 @@ pub fn segment(text: &[u8]) -> First
     match lead_of(text[0]) {
         Lead::Alone => First::Damage(1),
         Lead::Begins(more, low, high) => follow(text, more, low, high),
+    }
+}
+
+fn wide(b: u8) -> u32
+    ensures { λ r. ⌜ r ≡ b ⌝ }
+{
+    b as u32
+}
+
+// The number that a sequence of n bytes at the start of a text stands for.
+fn number_of(text: &[u8], n: usize) -> u32
+    requires { ⌜ 0 < n ⌝ }
+    requires { ⌜ n ≤ 4 ⌝ }
+    requires { ⌜ n ≤ length (now text) ⌝ }
+    ensures { λ r. ⌜ r ≡ number (take n (now (text .entry))) ⌝ }
+{
+    let a = wide(text[0]);
+    if n == 1 {
+        return a % 0x80;
+    }
+    let b = wide(text[1]) % 0x40;
+    if n == 2 {
+        return a % 0x20 * 0x40 + b;
+    }
+    let c = wide(text[2]) % 0x40;
+    if n == 3 {
+        return (a % 0x10 * 0x40 + b) * 0x40 + c;
+    }
+    let d = wide(text[3]) % 0x40;
+    ((a % 0x08 * 0x40 + b) * 0x40 + c) * 0x40 + d
+}
+
+// The code point that stands first in a text.
+pub fn point(text: &[u8]) -> Point
+    ensures { λ r. ⌜ r .number ∷ r .size ∷ [] ≡ pointSays utf8 (now (text .entry)) ⌝ }
+{
+    match segment(text) {
+        First::Nothing => Point { number: 0, size: 0 },
+        First::Whole(n) => Point {
+            number: number_of(text, n),
+            size: n,
+        },
+        First::Damage(n) => Point {
+            number: 0xFFFD,
+            size: n,
+        },
+        First::Begun(n) => Point {
+            number: 0xFFFD,
+            size: n,
+        },
     }
 }
 
