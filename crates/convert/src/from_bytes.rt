@@ -86,9 +86,9 @@ pub fn repair(text: &[u8], out: &mut [u8]) -> Written
     if Decoder::LIMIT < text.len() {
         return Written::Refused(Refusal::OverLimit);
     }
-    let needed = need(text, Target::Bytes);
-    if out.len() < needed {
-        return Written::Refused(Refusal::NoRoom { needed });
+    let bytes = need(text, Target::Bytes);
+    if out.len() < bytes {
+        return Written::Refused(Refusal::NoRoom { needed: bytes });
     }
     Written::Count(write_bytes(text, out))
 }
@@ -105,9 +105,9 @@ pub fn repair_to_units(text: &[u8], out: &mut [u16]) -> Written
     if Decoder::LIMIT < text.len() {
         return Written::Refused(Refusal::OverLimit);
     }
-    let needed = need(text, Target::Units);
-    if out.len() < needed {
-        return Written::Refused(Refusal::NoRoom { needed });
+    let units = need(text, Target::Units);
+    if out.len() < units {
+        return Written::Refused(Refusal::NoRoom { needed: units });
     }
     Written::Count(write_units(text, out))
 }
@@ -124,9 +124,9 @@ fn repair_to_codes(text: &[u8], out: &mut [u32]) -> Written
     if Decoder::LIMIT < text.len() {
         return Written::Refused(Refusal::OverLimit);
     }
-    let needed = need(text, Target::Codes);
-    if out.len() < needed {
-        return Written::Refused(Refusal::NoRoom { needed });
+    let codes = need(text, Target::Codes);
+    if out.len() < codes {
+        return Written::Refused(Refusal::NoRoom { needed: codes });
     }
     Written::Count(write_codes(text, out))
 }

@@ -71,9 +71,9 @@ fn repair_to_bytes(text: &[u32], out: &mut [u8]) -> Written
     if Decoder::LIMIT < text.len() {
         return Written::Refused(Refusal::OverLimit);
     }
-    let needed = need(text, Target::Bytes);
-    if out.len() < needed {
-        return Written::Refused(Refusal::NoRoom { needed });
+    let bytes = need(text, Target::Bytes);
+    if out.len() < bytes {
+        return Written::Refused(Refusal::NoRoom { needed: bytes });
     }
     Written::Count(write_bytes(text, out))
 }
@@ -90,9 +90,9 @@ fn repair_to_units(text: &[u32], out: &mut [u16]) -> Written
     if Decoder::LIMIT < text.len() {
         return Written::Refused(Refusal::OverLimit);
     }
-    let needed = need(text, Target::Units);
-    if out.len() < needed {
-        return Written::Refused(Refusal::NoRoom { needed });
+    let units = need(text, Target::Units);
+    if out.len() < units {
+        return Written::Refused(Refusal::NoRoom { needed: units });
     }
     Written::Count(write_units(text, out))
 }

@@ -1,3 +1,4 @@
 pub mod Measures
 pub mod Cutting
 pub mod Lookup
+pub mod Walk

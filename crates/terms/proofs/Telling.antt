@@ -20,14 +20,14 @@ use Rattle.terms.specs.declared.Written.the-variants as the-written
 pub by-back : {A : Type 0} (told : A → List ℕ) (back : List ℕ → A) → ((a : A) → back (told a) ≡ a) → (a b : A) → told a ≡ told b → a ≡ b
 by-back told back h a b e = sym (h a) ∙ ap back e ∙ h b
 
-backRefusal : List ℕ → Refusal
+unfoldable pub backRefusal : List ℕ → Refusal
 backRefusal l =
     let n = getD l 0 0 in
     let v = getD l 1 0 in
     cond (eqb n 1) (Damaged v (getD l 2 0)) (cond (eqb n 2) OverLimit (cond (eqb n 3) (NoRoom v) (cond (eqb n 4) PastEnd
     (cond (eqb n 5) Inside (cond (eqb n 6) (Unusable v) (cond (eqb n 7) ListRoom (cond (eqb n 8) BadState (NoScalar v))))))))
 
-refusal-back : (a : Refusal) → backRefusal (refusal a) ≡ a
+pub refusal-back : (a : Refusal) → backRefusal (refusal a) ≡ a
 unfolding backRefusal
 refusal-back (Damaged start length) = refl
 refusal-back OverLimit = refl

@@ -1,0 +1,29 @@
+-- `place::lookup` meets its contract: refusal 2, then the walk from the start of the text.
+-- Assumes nothing.
+use mathlib.Core.Path.{_∙_}
+use native.Mathlib.Omega.{arith}
+use borrow.Author.Needs.{needs}
+use Rattle.place.specs.Walk.{number, measure}
+use Rattle.place.proofs.Reaching.{start-roomy, lookup-over, lookup-within}
+use Rattle.place.proofs.lookup.Statement.{statement}
+use Rattle.place.proofs.lookup.Tie as tie
+
+returns : tie.Need-returns
+returns c =
+    let a = c .before .before .args in
+    lookup-over (measure (a .to)) (number (a .to)) (a .text .now) (c .if1 .taken)
+
+start-requires : tie.Need-start-requires
+start-requires c κs = search needs
+
+resume-requires : tie.Need-resume-requires
+resume-requires c κs = rw (c .start .ensures) (start-roomy (c .before .before .before .args .text .now) (omega arith))
+
+returns-2 : tie.Need-returns-2
+returns-2 c =
+    let s = c .before in
+    let a = s .before .before .before .args in
+    c .resume .ensures ∙ rw (s .start .ensures) (lookup-within (measure (a .to)) (number (a .to)) (a .text .now) (s .before .if1 .left))
+
+pub lookup-spec : {M : Type 1} → statement M
+lookup-spec = tie.close (tie.spec returns start-requires resume-requires returns-2)
