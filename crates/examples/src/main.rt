@@ -1,9 +1,14 @@
-// Runs the fixed examples on the compiled readers and prints what it finds: of each text its elements, its segments, and what
-// the strict check tells, in the numbers of the refusals (0 is well-formed).
+// Runs the fixed examples on the compiled library and prints what it finds: of each text its elements, its segments, what the
+// strict check tells in the numbers of the refusals (0 is well-formed), its repaired form, and the same in the other form.
 use libc::STDOUT_FILENO;
+use place::Bytes;
+use place::Lines;
+use place::Placed;
+use place::Units;
 use terms::Checked;
 use terms::First;
 use terms::Refusal;
+use terms::Written;
 
 fn put(word: &[u8]) {
     io::write_all(STDOUT_FILENO, word);
@@ -25,8 +30,8 @@ fn unit(u: u16) -> u64 {
 fn spell_bytes(text: &[u8]) {
     let mut k: usize = 0;
     while k < text.len() {
-        io::print_hex(STDOUT_FILENO, byte(text[k]), 2);
         put(b" ");
+        io::print_hex(STDOUT_FILENO, byte(text[k]), 2);
         k += 1;
     }
 }
@@ -34,8 +39,8 @@ fn spell_bytes(text: &[u8]) {
 fn spell_units(text: &[u16]) {
     let mut k: usize = 0;
     while k < text.len() {
-        io::print_hex(STDOUT_FILENO, unit(text[k]), 4);
         put(b" ");
+        io::print_hex(STDOUT_FILENO, unit(text[k]), 4);
         k += 1;
     }
 }
@@ -76,6 +81,12 @@ fn refused(r: Refusal) {
             number(length);
         }
         Refusal::OverLimit => number(2),
+        Refusal::NoRoom { needed } => {
+            number(3);
+            number(needed);
+        }
+        Refusal::PastEnd => number(4),
+        Refusal::Inside => number(5),
         _ => put(b" another refusal"),
     }
 }
@@ -86,21 +97,95 @@ fn check(c: Checked) {
         Checked::WellFormed => number(0),
         Checked::Refused(r) => refused(r),
     }
-    put(b"\n");
+}
+
+fn bytes_repaired(text: &[u8]) {
+    let mut out = [0u8; 64];
+    match convert::from_bytes::repair(text, &mut out) {
+        Written::Count(n) => spell_bytes(&out[..n]),
+        Written::Refused(r) => refused(r),
+    }
+}
+
+fn bytes_as_units(text: &[u8]) {
+    let mut out = [0u16; 64];
+    match convert::from_bytes::repair_to_units(text, &mut out) {
+        Written::Count(n) => spell_units(&out[..n]),
+        Written::Refused(r) => refused(r),
+    }
+}
+
+fn units_repaired(text: &[u16]) {
+    let mut out = [0u16; 64];
+    match convert::from_units::repair(text, &mut out) {
+        Written::Count(n) => spell_units(&out[..n]),
+        Written::Refused(r) => refused(r),
+    }
+}
+
+fn units_as_bytes(text: &[u16]) {
+    let mut out = [0u8; 64];
+    match convert::from_units::repair_to_bytes(text, &mut out) {
+        Written::Count(n) => spell_bytes(&out[..n]),
+        Written::Refused(r) => refused(r),
+    }
 }
 
 fn show_bytes(text: &[u8]) {
+    put(b"bytes");
     spell_bytes(text);
-    put(b"is");
+    put(b":");
     byte_segments(text);
     check(utf8::check(text));
+    put(b"; repaired");
+    bytes_repaired(text);
+    put(b"; units");
+    bytes_as_units(text);
+    put(b"\n");
 }
 
 fn show_units(text: &[u16]) {
+    put(b"units");
     spell_units(text);
-    put(b"is");
+    put(b":");
     unit_segments(text);
     check(utf16::check(text));
+    put(b"; repaired");
+    units_repaired(text);
+    put(b"; bytes");
+    units_as_bytes(text);
+    put(b"\n");
+}
+
+fn found(p: Placed) {
+    match p {
+        Placed::At(q) => {
+            number(q.bytes);
+            number(q.units);
+            number(q.points);
+            number(q.lines);
+        }
+        Placed::Refused(r) => {
+            put(b" refused");
+            refused(r);
+        }
+    }
+    put(b"\n");
+}
+
+fn show_places(text: &[u8]) {
+    put(b"unit 2:");
+    found(place::at_unit(text, Units(2)));
+    put(b"unit 3:");
+    found(place::at_unit(text, Units(3)));
+    put(b"byte 2:");
+    found(place::at_byte(text, Bytes(2)));
+    put(b"byte 12:");
+    found(place::at_byte(text, Bytes(12)));
+    put(b"line 1:");
+    found(place::at_line(text, Lines(1)));
+    put(b"line 2:");
+    found(place::at_line(text, Lines(2)));
 }
 
 fn main() {
@@ -119,4 +204,5 @@ fn main() {
     show_units(&[0xD83D, 0xDE86]);
     show_units(&[0xD83D, 0xD83D, 0xDE86]);
     show_units(&[0xDE86, 0xD83D]);
+    show_places(b"\x41\xE2\x82\xAC\xF0\x9F\x9A\x86\x80\x0A\x42");
 }

@@ -13,7 +13,7 @@ use Rattle.division.proofs.Cases.{split}
 use Rattle.terms.specs.Form.{Form, converted}
 use Rattle.terms.specs.Limits.{limit}
 use Rattle.terms.specs.Strict.{damages, strictly, limited}
-use Rattle.terms.specs.Told.{refusal, checked}
+use Rattle.terms.specs.Told.{refusal, checked, written}
 use Rattle.terms.specs.Writing.{roomed, Writes, repairSays, convertSays}
 use Rattle.terms.specs.declared.Refusal.{Refusal}
 use Rattle.terms.specs.declared.Refusal.the-variants.{OverLimit, NoRoom}
@@ -22,7 +22,7 @@ use Rattle.terms.specs.declared.Checked.the-variants as the-checked
 use Rattle.terms.specs.declared.Written.{Written}
 use Rattle.terms.specs.declared.Written.the-variants.{Count, Refused}
 use Rattle.terms.proofs.Telling.{no-zero}
-use Rattle.terms.proofs.Converting.{limited-granted, Refuses, strictly-granted}
+use Rattle.terms.proofs.Converting.{limited-granted, roomed-granted, Refuses, strictly-granted}
 
 -- a refusal leaves the output as it was
 pub refuses : (says form out : List ℕ) (r : Refusal) → refusal r ≡ says → Writes says form out out (Refused r)
@@ -46,6 +46,16 @@ module _ (text form out : List ℕ) where
     repair-done n out′ k e o =
         let says : repairSays (length out) text form ≡ 0 ∷ length form ∷ [] = rw (le-ltb limit (length text) h, le-ltb (length out) (length form) k) in
         record { answer = rw (says, e); output = rw (says, o) }
+
+-- what was written is the form, and lies within the output
+pub repair-count : (text form out out′ : List ℕ) (r : Written) → Writes (repairSays (length out) text form) form out out′ r → (n : ℕ) → r ≡ Count n
+    → (n ≡ length form) × (n ≤ length out)
+repair-count text form out out′ r w n e =
+    let l = limited-granted text (roomed (length out) form) (sym (w .answer) ∙ ap written e) in
+    let k : length form ≤ length out = roomed-granted (length out) form (l .1) in
+    let s : roomed (length out) form ≡ 0 ∷ length form ∷ [] = rw (le-ltb (length out) (length form) k) in
+    let m : n ≡ length form = cc (l .1) in
+    (m, rw m k)
 
 -- ---- strict conversion: the check's refusal, or repair's answer, since there is nothing to repair
 

@@ -16,6 +16,12 @@ abbrev μ-loop : tie.MeasureT-loop
 loop-holds : tie.Need-loop-holds Inv-loop μ-loop
 loop-holds c = search needs
 
+slice-aggregate-put : tie.Need-slice-aggregate-put Inv-loop μ-loop
+slice-aggregate-put c = search needs
+
+put-requires : tie.Need-put-requires Inv-loop μ-loop
+put-requires c κs = search needs
+
 mul-unit : tie.Need-mul-unit Inv-loop μ-loop
 mul-unit c = search needs
 
@@ -27,12 +33,6 @@ unit-requires c κs = search needs
 
 print-hex-requires : tie.Need-print-hex-requires Inv-loop μ-loop
 print-hex-requires c κs = search needs
-
-slice-aggregate-put : tie.Need-slice-aggregate-put Inv-loop μ-loop
-slice-aggregate-put c = search needs
-
-put-requires : tie.Need-put-requires Inv-loop μ-loop
-put-requires c κs = search needs
 
 add-k : tie.Need-add-k Inv-loop μ-loop
 add-k c = search needs
@@ -53,12 +53,12 @@ spell-units-spec =
     Inv-loop
     μ-loop
     loop-holds
+    slice-aggregate-put
+    put-requires
     mul-unit
     shared-slice-read-unit
     unit-requires
     print-hex-requires
-    slice-aggregate-put
-    put-requires
     add-k
     loop-less
     loop-again
