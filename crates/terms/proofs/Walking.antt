@@ -6,16 +6,18 @@ use mathlib.Core.Bool.{Bool, true, false}
 use mathlib.Core.List.{List, [], _∷_}
 use lib.ListN.{length, getD, take, drop, length-drop}
 use lib.Seq.{take-all, drop-drop}
-use borrow.Author.Tests.{lt-ltb, le-ltb}
+use lib.Dec.{ltb}
+use borrow.Author.Tests.{lt-ltb, le-ltb, ltb-false}
 use native.Mathlib.Omega.{arith}
 use Rattle.division.specs.Reader.{Reader, Segment, body, cut}
 use Rattle.division.specs.Reader as reader
 use Rattle.division.specs.Table.{Kind, whole, damage, isDamage}
-use Rattle.division.specs.Tally.{size, Entry, entries}
-use Rattle.division.proofs.Dividing.{Division, first-size, cut-nil, cut-cons}
+use Rattle.division.specs.Tally.{total, size, Entry, entries}
+use Rattle.division.proofs.Dividing.{Division, first-size, cut-nil, cut-cons, cut-size}
+use Rattle.division.proofs.Cases.{split}
 use Rattle.terms.specs.Limits.{limit}
 use Rattle.terms.specs.Told.{first, sizeOf, bit, lookSays, firstSays}
-use Rattle.terms.specs.Strict.{damages, strictly, limited}
+use Rattle.terms.specs.Strict.{damages, strictly, damaged, limited, checkSays}
 use Rattle.terms.specs.declared.First.{First}
 use Rattle.terms.specs.declared.First.the-variants.{Nothing, Whole, Damage, Begun}
 
@@ -151,3 +153,29 @@ module _ {look : Reader Kind} (text : List ℕ) (at : ℕ) (c : Clean look text 
 -- refusal 2 goes before
 pub check-over : (text granted : List ℕ) → limit < length text → 2 ∷ [] ≡ limited text granted
 check-over text granted h = rw (lt-ltb limit (length text) h)
+
+-- ---- what a strict check tells of damage lies within the text
+
+entries-within : (at : ℕ) (ss : List (Segment Kind)) (e : Entry Kind) (es : List (Entry Kind)) → entries isDamage at ss ≡ e ∷ es
+    → e .start + e .long ≤ at + total size ss
+entries-within at [] e es q = let z : _≡_ {A = ℕ} 0 1 = cc in absurd (omega arith)
+entries-within at (s ∷ ss) e es q = split (isDamage (s .tag))
+    (λ d.
+    let h : record { start = at; long = size s; tag = s .tag } ∷ entries isDamage (at + size s) ss ≡ e ∷ es = rw d at q in
+    let a : e .start ≡ at = cc in
+    let b : e .long ≡ size s = cc in
+    omega arith)
+    (λ d. omega (arith, entries-within (at + size s) ss e es (rw d at q)))
+
+pub damage-within : (look : Reader Kind) (text : List ℕ) (start long : ℕ) → 1 ∷ start ∷ long ∷ [] ≡ checkSays look text
+    → (start + long ≤ length text) × (length text ≤ limit)
+damage-within look text start long q = split (ltb limit (length text))
+    (λ t. let z : _≡_ {A = ℕ} 1 2 = cc in absurd (omega arith))
+    (λ t. (go (damages look text) refl (rw t at q), ltb-false limit (length text) t))
+  where
+    go : (ds : List (Entry Kind)) → damages look text ≡ ds → 1 ∷ start ∷ long ∷ [] ≡ strictly damaged ds (0 ∷ []) → start + long ≤ length text
+    go [] e p = let z : _≡_ {A = ℕ} 1 0 = cc in absurd (omega arith)
+    go (d ∷ ds) e p =
+        let a : start ≡ d .start = cc in
+        let b : long ≡ d .long = cc in
+        omega (arith, entries-within 0 (cut look text) d ds e, cut-size look text)

@@ -1,8 +1,9 @@
 // The terms in which every call answers: the limits, what stands first in a text, and the refusals by their numbers.
 ghost use mathlib.Core.Path.{_≡_};
 ghost use mathlib.Core.List.{[], _∷_};
+ghost use lib.ListN.{getD};
 ghost use Rattle.terms.specs.Limits.{freshOf};
-ghost use Rattle.terms.specs.Told.{sizeOf, checked};
+ghost use Rattle.terms.specs.Told.{sizeOf, refusal, checked};
 
 // The decoder of a byte text that comes in pieces: what it keeps between two pieces. The limits belong to it.
 pub struct Decoder {
@@ -81,6 +82,60 @@ pub enum Refusal {
     ListRoom,
     BadState,
     NoScalar { position: usize },
+}
+
+impl Refusal {
+    // Its number, and the values that it tells: 0 where it tells none.
+    pub fn number(self) -> usize
+        ensures { λ r. ⌜ r ≡ getD (refusal self) 0 0 ⌝ }
+    {
+        match self {
+            Refusal::Damaged {
+                start: _,
+                length: _,
+            } => 1,
+            Refusal::OverLimit => 2,
+            Refusal::NoRoom { needed: _ } => 3,
+            Refusal::PastEnd => 4,
+            Refusal::Inside => 5,
+            Refusal::Unusable { checkpoint: _ } => 6,
+            Refusal::ListRoom => 7,
+            Refusal::BadState => 8,
+            Refusal::NoScalar { position: _ } => 9,
+        }
+    }
+
+    pub fn first(self) -> usize
+        ensures { λ r. ⌜ r ≡ getD (refusal self) 1 0 ⌝ }
+    {
+        match self {
+            Refusal::Damaged { start, length: _ } => start,
+            Refusal::OverLimit => 0,
+            Refusal::NoRoom { needed } => needed,
+            Refusal::PastEnd => 0,
+            Refusal::Inside => 0,
+            Refusal::Unusable { checkpoint } => checkpoint,
+            Refusal::ListRoom => 0,
+            Refusal::BadState => 0,
+            Refusal::NoScalar { position } => position,
+        }
+    }
+
+    pub fn second(self) -> usize
+        ensures { λ r. ⌜ r ≡ getD (refusal self) 2 0 ⌝ }
+    {
+        match self {
+            Refusal::Damaged { start: _, length } => length,
+            Refusal::OverLimit => 0,
+            Refusal::NoRoom { needed: _ } => 0,
+            Refusal::PastEnd => 0,
+            Refusal::Inside => 0,
+            Refusal::Unusable { checkpoint: _ } => 0,
+            Refusal::ListRoom => 0,
+            Refusal::BadState => 0,
+            Refusal::NoScalar { position: _ } => 0,
+        }
+    }
 }
 
 // The answer of a strict check.
