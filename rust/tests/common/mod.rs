@@ -1,0 +1,120 @@
+//! An independent segment reader, from the sentence of the Unicode Standard, and texts to try it on.
+
+/// The well-formed sequences: a range for each byte.
+const ROWS: [&[(u8, u8)]; 9] = [
+    &[(0x00, 0x7F)],
+    &[(0xC2, 0xDF), (0x80, 0xBF)],
+    &[(0xE0, 0xE0), (0xA0, 0xBF), (0x80, 0xBF)],
+    &[(0xE1, 0xEC), (0x80, 0xBF), (0x80, 0xBF)],
+    &[(0xED, 0xED), (0x80, 0x9F), (0x80, 0xBF)],
+    &[(0xEE, 0xEF), (0x80, 0xBF), (0x80, 0xBF)],
+    &[(0xF0, 0xF0), (0x90, 0xBF), (0x80, 0xBF), (0x80, 0xBF)],
+    &[(0xF1, 0xF3), (0x80, 0xBF), (0x80, 0xBF), (0x80, 0xBF)],
+    &[(0xF4, 0xF4), (0x80, 0x8F), (0x80, 0xBF), (0x80, 0xBF)],
+];
+
+/// How many bytes from the start of a text agree with a row.
+fn agreeing(row: &[(u8, u8)], text: &[u8]) -> usize {
+    row.iter()
+        .zip(text)
+        .take_while(|((low, high), b)| (low..=high).contains(b))
+        .count()
+}
+
+/// The segment at the start of a text that is not empty: its length, and whether it is whole.
+pub fn segment(text: &[u8]) -> (usize, bool) {
+    for row in ROWS {
+        if agreeing(row, text) == row.len() {
+            return (row.len(), true);
+        }
+    }
+    let longest = ROWS.iter().map(|row| agreeing(row, text)).max().unwrap();
+    (longest.max(1), false)
+}
+
+/// The damages of a text: start and length of each.
+pub fn damages(text: &[u8]) -> Vec<(usize, usize)> {
+    let (mut found, mut at) = (Vec::new(), 0);
+    while at < text.len() {
+        let (n, whole) = segment(&text[at..]);
+        if !whole {
+            found.push((at, n));
+        }
+        at += n;
+    }
+    found
+}
+
+/// The repaired form of a text.
+pub fn repaired(text: &[u8]) -> Vec<u8> {
+    let (mut out, mut at) = (Vec::new(), 0);
+    while at < text.len() {
+        let (n, whole) = segment(&text[at..]);
+        out.extend_from_slice(if whole {
+            &text[at..at + n]
+        } else {
+            b"\xEF\xBF\xBD"
+        });
+        at += n;
+    }
+    out
+}
+
+/// Bytes at which something changes: the ends of every range.
+pub const INTERESTING: [u8; 32] = [
+    0x00, 0x0A, 0x41, 0x7F, 0x80, 0x81, 0x8F, 0x90, 0x9F, 0xA0, 0xBE, 0xBF, 0xC0, 0xC1, 0xC2, 0xDF,
+    0xE0, 0xE1, 0xE2, 0xEC, 0xED, 0xEE, 0xEF, 0xF0, 0xF1, 0xF3, 0xF4, 0xF5, 0xF7, 0xF8, 0xFE, 0xFF,
+];
+
+/// Random numbers that are the same in every run.
+pub struct Random(pub u64);
+
+impl Random {
+    pub fn next(&mut self) -> u64 {
+        self.0 ^= self.0 << 13;
+        self.0 ^= self.0 >> 7;
+        self.0 ^= self.0 << 17;
+        self.0
+    }
+
+    pub fn below(&mut self, n: usize) -> usize {
+        (self.next() % n as u64) as usize
+    }
+
+    /// A text of about so many bytes: of any scalar values, of one alphabet, of interesting bytes or of any bytes; often with
+    /// bytes dropped or changed, as a line does.
+    pub fn text(&mut self, length: usize) -> Vec<u8> {
+        let mut text = Vec::new();
+        let alphabet = self.below(6);
+        while text.len() < length {
+            let c = match alphabet {
+                0 => self.below(0x80) as u32,
+                1 => 0x400 + self.below(0x100) as u32,
+                2 => 0x4E00 + self.below(0x5000) as u32,
+                3 => 0x1F600 + self.below(0x100) as u32,
+                4 => self.below(0x110000) as u32,
+                _ => {
+                    text.push(if self.below(2) == 0 {
+                        INTERESTING[self.below(32)]
+                    } else {
+                        self.next() as u8
+                    });
+                    continue;
+                }
+            };
+            text.extend(char::from_u32(c).unwrap_or('\u{E000}').to_string().bytes());
+        }
+        for _ in 0..self.below(4) {
+            if text.is_empty() {
+                break;
+            }
+            let at = self.below(text.len());
+            match self.below(3) {
+                0 => drop(text.remove(at)),
+                1 => text[at] = self.next() as u8,
+                _ => text.truncate(at),
+            }
+        }
+        text
+    }
+}
