@@ -1,0 +1,9 @@
+pub mod Writing
+pub mod Settling
+pub mod Acting
+pub mod Passing
+pub mod Testing
+pub mod Seaming
+pub mod Answering
+pub mod Finishing
+pub mod Calling
