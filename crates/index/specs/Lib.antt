@@ -1,3 +1,2 @@
 pub mod Checkpoints
-pub mod Building
 pub mod Looking

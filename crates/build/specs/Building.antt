@@ -17,11 +17,11 @@ use Rattle.utf8.specs.Pending.{zeros, padded}
 use Rattle.place.specs.Measures.{place, ruler}
 use Rattle.place.specs.Lookup.{counts}
 use Rattle.place.specs.declared.Place.{Place}
 use Rattle.index.specs.Checkpoints.{spacing, needed}
-use Rattle.index.specs.declared.Builder.{Builder}
-use Rattle.index.specs.declared.Building.{Building}
-use Rattle.index.specs.declared.Building.the-variants.{Done, Refused}
-use Rattle.index.specs.declared.Built as the-built
+use Rattle.build.specs.declared.Builder.{Builder}
+use Rattle.build.specs.declared.Building.{Building}
+use Rattle.build.specs.declared.Building.the-variants.{Done, Refused}
+use Rattle.build.specs.declared.Built as the-built
 
 abbrev pub freshBuilder : Builder
 freshBuilder = record { held = 0 ∷ 0 ∷ 0 ∷ []; pending = 0; taken = 0; units = 0; points = 0; lines = 0 }
