@@ -7,3 +7,4 @@ pub mod Seaming
 pub mod Answering
 pub mod Finishing
 pub mod Calling
+pub mod Taking
