@@ -1,4 +1,5 @@
 //! An independent segment reader, from the sentence of the Unicode Standard, and texts to try it on.
+#![allow(dead_code)] // each test file uses its part
 
 /// The well-formed sequences: a range for each byte.
 const ROWS: [&[(u8, u8)]; 9] = [

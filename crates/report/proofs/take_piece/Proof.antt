@@ -2,7 +2,7 @@
 -- Assumes nothing.
 use mathlib.Core.Path.{sym}
 use native.Mathlib.Omega.{arith}
-use Rattle.repair.proofs.Taking.{taken-is, taken-within}
+use Rattle.repair.proofs.Taking.{taken-is, granted}
 use borrow.Author.Needs.{needs}
 use Rattle.report.proofs.take_piece.Statement.{statement}
 use Rattle.report.proofs.take_piece.Tie as tie
@@ -53,7 +53,7 @@ returns-3 : tie.Need-returns-3
 returns-3 c =
     let f = c .before .before .before .before .before .before .before in
     let t = taken-is (f .feed .ensures) _ (c .enum-told .given .1) in
-    let w = taken-within (f .feed .ensures) _ (c .enum-told .given .1) in
+    let w = granted (f .feed .ensures) _ (c .enum-told .given .1) .within in
     let e = f .before .before .before .before in
     (omega (arith, t, e .if2 .left, e .before .count .ensures .0 .1), rw t w)
 
