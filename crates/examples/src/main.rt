@@ -5,7 +5,9 @@ use place::Bytes;
 use place::Lines;
 use place::Placed;
 use place::Units;
+use repair::Total;
 use terms::Checked;
+use terms::Decoder;
 use terms::First;
 use terms::Refusal;
 use terms::Written;
@@ -25,6 +27,10 @@ fn byte(b: u8) -> u64 {
 
 fn unit(u: u16) -> u64 {
     u as u64
+}
+
+fn long(n: u32) -> usize {
+    n as usize
 }
 
 fn spell_bytes(text: &[u8]) {
@@ -188,6 +194,69 @@ fn show_places(text: &[u8]) {
     found(place::at_line(text, Lines(2)));
 }
 
+// Feeds a piece, prints what was written, and hands the state on.
+fn show_piece(state: Decoder, piece: &[u8], list: &mut [u32]) -> Decoder {
+    let mut out = [0u8; 64];
+    let fed = repair::feed(state, piece, &mut out, list);
+    let answer = fed.answer;
+    let next = fed.state;
+    put(b"piece");
+    spell_bytes(piece);
+    put(b": wrote");
+    match answer {
+        Written::Count(n) => spell_bytes(&out[..n]),
+        Written::Refused(r) => refused(r),
+    }
+    put(b"\n");
+    next
+}
+
+fn show_end(state: Decoder, list: &mut [u32]) {
+    let mut out = [0u8; 64];
+    let answer = repair::finish(state, &mut out, list).answer;
+    put(b"finish: wrote");
+    match answer {
+        Total::Given {
+            written,
+            whole,
+            damaged,
+            count,
+        } => {
+            number(written);
+            put(b" bytes; count");
+            number(count);
+            put(b" whole");
+            number(whole);
+            put(b" damaged");
+            number(damaged);
+        }
+        Total::Refused(r) => refused(r),
+    }
+    put(b"\n");
+}
+
+fn show_list(list: &[u32]) {
+    put(b"list");
+    let mut k: usize = 0;
+    while k < list.len() {
+        number(long(list[k]));
+        k += 1;
+    }
+    put(b"\n");
+}
+
+fn show_pieces() {
+    let mut list = [0u32; 4];
+    let a = show_piece(repair::start(2).state, b"\xE2", &mut list);
+    let b = show_piece(a, b"\x82", &mut list);
+    let c = show_piece(b, b"\x41", &mut list);
+    show_end(c, &mut list);
+    show_list(&list);
+    let d = show_piece(repair::start(2).state, b"\x80\x80\x80\x80\x80", &mut list);
+    show_end(d, &mut list);
+    show_list(&list);
+}
+
 fn main() {
     show_bytes(b"");
     show_bytes(b"\xE2\x82\xAC");
@@ -205,4 +274,5 @@ fn main() {
     show_units(&[0xD83D, 0xD83D, 0xDE86]);
     show_units(&[0xDE86, 0xD83D]);
     show_places(b"\x41\xE2\x82\xAC\xF0\x9F\x9A\x86\x80\x0A\x42");
+    show_pieces();
 }

@@ -19,7 +19,7 @@ use Rattle.terms.proofs.Walking.{part-is}
 use Rattle.terms.proofs.Writing.{lent, back, back-is}
 use Rattle.utf8.specs.Scalar.{utf8}
 use Rattle.repair.specs.State.{numbers}
-use Rattle.repair.specs.Settled.{settled, firstNeed, need, settledSize, form, places, notes, added, stored, logOf, Ready, Acts}
+use Rattle.repair.specs.Steps.{settled, firstNeed, need, settledSize, form, places, notes, added, stored, logOf, Ready, Acts}
 use Rattle.repair.specs.declared.Tally.{Tally}
 use Rattle.repair.proofs.Settling.{settled-parts, settled-inside, Told}
 
@@ -131,7 +131,8 @@ module _ {room : ℕ} {t : Tally} {text out list : List ℕ} where
         let w : ℕ = t .written in
         let i : added r t .written ≡ w + places r = added-written r t in
         let b : back out w ys ≡ front ++ drop (w + places r) out
-        = back-is out w ys ∙ rw (e, part-is out w, drop-drop (places r) w out) (sym (append-assoc (take w out) (form r text) (drop (w + places r) out))) in
+        = back-is out w ys
+        ∙ rw (e, part-is out w, drop-drop (places r) w out) (sym (append-assoc (take w out) (form r text) (drop (w + places r) out))) in
         let f : take (added r t .written) (back out w ys) ≡ front = rw (i, b) (take-at front (drop (w + places r) out) (w + places r) front-long) in
         record {
           kept = rw (f, l) (d .acts room t (take w out) list);

@@ -26,7 +26,7 @@ use Rattle.utf8.specs.Bytes.{bytes}
 use Rattle.utf8.specs.Scalar.{utf8}
 use Rattle.repair.specs.State.{sound, numbers, opened, fed, closed}
 use Rattle.repair.specs.Feeding.{feedSays, Feeds}
-use Rattle.repair.specs.Settled.{settled, firstNeed, need, logOf, Ready, Acts, tallyOf, keeping, Rests, behind, Answers}
+use Rattle.repair.specs.Steps.{settled, firstNeed, need, logOf, Ready, Acts, tallyOf, keeping, Rests, behind, Answers}
 use Rattle.repair.specs.declared.Tally.{Tally}
 use Rattle.repair.specs.declared.Fed.{Fed}
 use Rattle.repair.proofs.Settling.{settled-inside}

@@ -251,7 +251,8 @@ module _ (room : ℕ) (row : List ℕ) where
     follows-granted g =
         let h = feed-grants (r .state) (c .piece) (c .out) (r .list) g in
         let e : called r c ≡ gone (stream .kept .out)
-        = ap (λ (b : Bool). cond b (gone (wrote says (stream .kept .out) (c .out))) r) g ∙ ap gone (wrote-is says (stream .kept .out) (c .out) (h .1)) in
+        = ap (λ (b : Bool). cond b (gone (wrote says (stream .kept .out) (c .out))) r) g
+        ∙ ap gone (wrote-is says (stream .kept .out) (c .out) (h .1)) in
         subst Follows (sym e) (follows-gone (h .0))
 
     follows-next : Follows (called r c)
@@ -322,7 +323,8 @@ module _ (room : ℕ) (row : List ℕ) where
 -- ---- THE CALLS THEMSELVES GO THIS COURSE: whatever a feed answers, leaves in the output and in the list
 
 module _ {A : Type 0} (state : Decoder) (list : List ℕ) (next : Decoder → List ℕ → A) where
-  either : (b : Bool) (old : A) (state′ : Decoder) (list′ : List ℕ) → cond b (next state′ list′) old ≡ cond b (next (cond b state′ state) (cond b list′ list)) old
+  either : (b : Bool) (old : A) (state′ : Decoder) (list′ : List ℕ)
+      → cond b (next state′ list′) old ≡ cond b (next (cond b state′ state) (cond b list′ list)) old
   either true old state′ list′ = refl
   either false old state′ list′ = refl
 

@@ -25,7 +25,7 @@ use Rattle.utf8.specs.Scalar.{utf8}
 use Rattle.utf8.proofs.Rows.{bytes-division, bytes-hold, whole-sure}
 use Rattle.repair.specs.State.{left, sound, act, opened, ended}
 use Rattle.repair.specs.Feeding.{finishSays, Finishes}
-use Rattle.repair.specs.Settled.{entry, stored, Ends}
+use Rattle.repair.specs.Steps.{entry, stored, Ends}
 use Rattle.repair.specs.declared.Total.the-variants.{Given, Refused}
 use Rattle.repair.proofs.Testing.{Sound, sound-is}
 use Rattle.repair.proofs.Seaming.{left-long}
@@ -78,7 +78,9 @@ module _ (d : Decoder) (out list : List ℕ) where
 
     module _ (k : 2 * d .room ≤ length list) (l : Log) (e : ended d list ≡ l) where
       finish-short : length out < length (l .out) → Finishes d out list out list (record { answer = Refused (NoRoom (length (l .out))); state = d })
-      finish-short h = finish-refused (NoRoom (length (l .out))) (rw (s, le-ltb (length list) (2 * d .room) k, e, lt-ltb (length out) (length (l .out)) h))
+      finish-short h =
+          finish-refused (NoRoom (length (l .out)))
+          (rw (s, le-ltb (length list) (2 * d .room) k, e, lt-ltb (length out) (length (l .out)) h))
 
       finish-done : length (l .out) ≤ length out → (q : Decoder) → q ≡ freshOf (d .room)
           → Finishes d out list (l .out ++ drop (length (l .out)) out) (l .list)

@@ -17,7 +17,7 @@ use Rattle.terms.specs.declared.First.{First}
 use Rattle.utf8.specs.Bytes.{bytes}
 use Rattle.utf8.specs.Scalar.{utf8}
 use Rattle.utf8.proofs.Rows.{bytes-division, bytes-hold}
-use Rattle.repair.specs.Settled.{settled, need, settledSize, places, Ready, Acts, Steps, Settles}
+use Rattle.repair.specs.Steps.{settled, need, settledSize, places, Ready, Acts, Steps, Settles}
 use Rattle.repair.specs.declared.Tally.{Tally}
 use Rattle.repair.specs.declared.Passed.{Passed}
 use Rattle.repair.proofs.Settling.{settled-parts, settled-inside, settled-none, Told}

@@ -21,7 +21,7 @@ use Rattle.terms.proofs.Writing.{lent, back, back-is}
 use Rattle.utf8.specs.Bytes.{bytes}
 use Rattle.utf8.proofs.Rows.{bytes-division, bytes-hold, bytes-top}
 use Rattle.repair.specs.State.{left, act, opened, fed}
-use Rattle.repair.specs.Settled.{settled, Seams, Rests, behind}
+use Rattle.repair.specs.Steps.{settled, Seams, Rests, behind}
 use Rattle.repair.proofs.Settling.{settled-sure, settled-open, one-size, settled-parts, settled-inside, settled-none, pending-none}
 use Rattle.repair.proofs.Testing.{Sound, sound-is}
 
@@ -79,7 +79,8 @@ module _ (held piece : List ℕ) (few : length held ≤ 3) (k : ℕ) (k-is : k �
       let e : 4 ≡ length held + (4 - length held) = omega arith in
       ap (λ (j : ℕ). take j (held ++ piece)) e ∙ take-append-add held piece (4 - length held) ∙ rw (k-is, take-min)
 
-  pub filled : (seam ms ys : List ℕ) → ms ≡ held ++ drop (length held) seam → ys ≡ take k piece ++ drop (length (take k piece)) (lent ms (length held))
+  pub filled : (seam ms ys : List ℕ) → ms ≡ held ++ drop (length held) seam
+      → ys ≡ take k piece ++ drop (length (take k piece)) (lent ms (length held))
       → take (length held + k) (back ms (length held) ys) ≡ take 4 (held ++ piece)
   filled seam ms ys m y =
       let n : ℕ = length held in

@@ -22,7 +22,7 @@ use Rattle.utf8.specs.Bytes.{bytes}
 use Rattle.utf8.specs.Scalar.{utf8}
 use Rattle.utf8.proofs.Rows.{bytes-division}
 use Rattle.repair.specs.State.{act}
-use Rattle.repair.specs.Settled.{settled, settledSize, form, places, notes, added, stored}
+use Rattle.repair.specs.Steps.{settled, settledSize, form, places, notes, added, stored}
 use Rattle.repair.specs.declared.Tally.{Tally}
 
 -- ---- how a text divides behind it

@@ -16,7 +16,7 @@ use Rattle.terms.specs.declared.Decoder.{Decoder}
 use Rattle.utf8.specs.Bytes.{bytes}
 use Rattle.utf8.specs.Pending.{zeros}
 use Rattle.repair.specs.State.{left, sound}
-use Rattle.repair.specs.Settled.{tailed, balanced}
+use Rattle.repair.specs.Steps.{tailed, balanced}
 
 -- ---- the numbers
 

@@ -11,7 +11,7 @@ use native.Mathlib.Nat.{zero-add}
 use native.Mathlib.Omega.{arith}
 use Rattle.terms.specs.Form.{replacement}
 use Rattle.utf8.specs.Scalar.{utf8}
-use Rattle.repair.specs.Settled.{entry, stored}
+use Rattle.repair.specs.Steps.{entry, stored}
 
 -- one byte more is copied
 pub copied-next : (bytes out₀ out : List ℕ) (i : ℕ) → i < length bytes → i < length out₀ → out ≡ take i bytes ++ drop i out₀

@@ -1,4 +1,4 @@
 pub mod State
 pub mod Feeding
-pub mod Settled
+pub mod Steps
 pub mod Course

@@ -13,7 +13,7 @@ ghost use Rattle.utf8.specs.Scalar.{utf8};
 ghost use Rattle.utf8.specs.Pending.{zeros};
 ghost use Rattle.repair.specs.State.{left, sound, fed};
 ghost use Rattle.repair.specs.Feeding.{Starts, Feeds, Finishes};
-ghost use Rattle.repair.specs.Settled as the;
+ghost use Rattle.repair.specs.Steps as steps;
 
 // The state of a start, and whether its room was refused.
 pub struct Started {
@@ -62,9 +62,11 @@ pub struct Passed {
     pub size: usize,
 }
 
+// ---- one segment
+
 // How many bytes of a text are settled by what stands first in it.
 fn settled_size(seg: First) -> usize
-    ensures { λ r. ⌜ r ≡ the.settledSize seg ⌝ }
+    ensures { λ r. ⌜ r ≡ steps.settledSize seg ⌝ }
 {
     match seg {
         First::Nothing => 0,
@@ -76,7 +78,7 @@ fn settled_size(seg: First) -> usize
 
 // How many places they take in repaired form.
 fn places(seg: First) -> usize
-    ensures { λ r. ⌜ r ≡ the.places seg ⌝ }
+    ensures { λ r. ⌜ r ≡ steps.places seg ⌝ }
 {
     match seg {
         First::Nothing => 0,
@@ -110,8 +112,8 @@ fn replace(out: &mut [u8])
 
 // The repaired form of what is settled by the segment that stands first in a text, at the start of the output.
 fn put(seg: First, text: &[u8], out: &mut [u8])
-    requires { ⌜ (the.settledSize seg ≤ length (now text)) × (the.places seg ≤ length (now out)) ⌝ }
-    ensures { λ r. ⌜ now (out .exit) ≡ the.form seg (now (text .entry)) ++ drop (the.places seg) (now (out .entry)) ⌝ }
+    requires { ⌜ (steps.settledSize seg ≤ length (now text)) × (steps.places seg ≤ length (now out)) ⌝ }
+    ensures { λ r. ⌜ now (out .exit) ≡ steps.form seg (now (text .entry)) ++ drop (steps.places seg) (now (out .entry)) ⌝ }
 {
     match seg {
         First::Nothing => {}
@@ -124,7 +126,7 @@ fn put(seg: First, text: &[u8], out: &mut [u8])
 // Entry i of the list, where there is room for it.
 fn enter(list: &mut [u32], room: usize, i: usize, start: usize, size: usize)
     requires { ⌜ (2 * room ≤ length (now list)) × (start + size ≤ limit) ⌝ }
-    ensures { λ r. ⌜ now (list .exit) ≡ the.stored room (now (list .entry)) i (the.entry start size ∷ []) ⌝ }
+    ensures { λ r. ⌜ now (list .exit) ≡ steps.stored room (now (list .entry)) i (steps.entry start size ∷ []) ⌝ }
 {
     if room <= i {
         return;
@@ -136,8 +138,8 @@ fn enter(list: &mut [u32], room: usize, i: usize, start: usize, size: usize)
 
 // The entry of a damage, behind those that are counted.
 fn note(seg: First, tally: Tally, room: usize, list: &mut [u32])
-    requires { ⌜ (2 * room ≤ length (now list)) × (tally .whole + tally .damaged + the.settledSize seg ≤ limit) ⌝ }
-    ensures { λ r. ⌜ now (list .exit) ≡ the.stored room (now (list .entry)) (tally .count) (the.notes seg (tally .whole + tally .damaged)) ⌝ }
+    requires { ⌜ (2 * room ≤ length (now list)) × (tally .whole + tally .damaged + steps.settledSize seg ≤ limit) ⌝ }
+    ensures { λ r. ⌜ now (list .exit) ≡ steps.stored room (now (list .entry)) (tally .count) (steps.notes seg (tally .whole + tally .damaged)) ⌝ }
 {
     match seg {
         First::Nothing => {}
@@ -149,9 +151,9 @@ fn note(seg: First, tally: Tally, room: usize, list: &mut [u32])
 
 // What a settled segment adds to a tally.
 fn add(seg: First, tally: Tally) -> Tally
-    requires { ⌜ (tally .whole + tally .damaged + the.settledSize seg ≤ limit) × (tally .count ≤ tally .damaged)
-        × (tally .written + the.places seg < 2 ^ 64) ⌝ }
-    ensures { λ r. ⌜ r ≡ the.added seg tally ⌝ }
+    requires { ⌜ (tally .whole + tally .damaged + steps.settledSize seg ≤ limit) × (tally .count ≤ tally .damaged)
+        × (tally .written + steps.places seg < 2 ^ 64) ⌝ }
+    ensures { λ r. ⌜ r ≡ steps.added seg tally ⌝ }
 {
     match seg {
         First::Nothing => tally,
@@ -173,8 +175,8 @@ fn add(seg: First, tally: Tally) -> Tally
 
 // One step: the segment that stands first in a text acts, if it is settled.
 fn step(text: &[u8], tally: Tally, room: usize, out: &mut [u8], list: &mut [u32]) -> Passed
-    requires { ⌜ the.Ready room tally (now text) (the.firstNeed (now text)) (now out) (now list) ⌝ }
-    ensures { λ r. ⌜ the.Steps room tally (now (text .entry)) (now (out .entry)) (now (list .entry)) (now (out .exit)) (now (list .exit)) r ⌝ }
+    requires { ⌜ steps.Ready room tally (now text) (steps.firstNeed (now text)) (now out) (now list) ⌝ }
+    ensures { λ r. ⌜ steps.Steps room tally (now (text .entry)) (now (out .entry)) (now (list .entry)) (now (out .exit)) (now (list .exit)) r ⌝ }
 {
     let seg = utf8::segment(text);
     let at = tally.written;
@@ -186,10 +188,12 @@ fn step(text: &[u8], tally: Tally, room: usize, out: &mut [u8], list: &mut [u32]
     }
 }
 
+// ---- all that is settled of a text
+
 // How many places the settled segments of a text take in repaired form.
 fn need(text: &[u8]) -> usize
     requires { ⌜ length (now text) ≤ limit ⌝ }
-    ensures { λ r. ⌜ r ≡ the.need (now (text .entry)) ⌝ }
+    ensures { λ r. ⌜ r ≡ steps.need (now (text .entry)) ⌝ }
 {
     let mut at = 0;
     let mut n = 0;
@@ -206,8 +210,8 @@ fn need(text: &[u8]) -> usize
 
 // All that is settled of a text acts.
 fn settle(text: &[u8], tally: Tally, room: usize, out: &mut [u8], list: &mut [u32]) -> Passed
-    requires { ⌜ the.Ready room tally (now text) (the.need (now text)) (now out) (now list) ⌝ }
-    ensures { λ r. ⌜ the.Settles room tally (now (text .entry)) (now (out .entry)) (now (list .entry)) (now (out .exit)) (now (list .exit)) r ⌝ }
+    requires { ⌜ steps.Ready room tally (now text) (steps.need (now text)) (now out) (now list) ⌝ }
+    ensures { λ r. ⌜ steps.Settles room tally (now (text .entry)) (now (out .entry)) (now (list .entry)) (now (out .exit)) (now (list .exit)) r ⌝ }
 {
     let mut at = 0;
     let mut tally = tally;
@@ -221,6 +225,8 @@ fn settle(text: &[u8], tally: Tally, room: usize, out: &mut [u8], list: &mut [u3
         at += size;
     }
 }
+
+// ---- the tests of a state
 
 // Are they all 0?
 fn is_zero(bytes: &[u8]) -> bool
@@ -238,7 +244,7 @@ fn is_zero(bytes: &[u8]) -> bool
 
 // Are the pending bytes at most 3, empty or a proper beginning of a well-formed sequence, and the unused ones 0?
 fn is_tailed(state: Decoder) -> bool
-    ensures { λ r. ⌜ r ≡ the.tailed state ⌝ }
+    ensures { λ r. ⌜ r ≡ steps.tailed state ⌝ }
 {
     let n = state.pending;
     if 3 < n {
@@ -253,7 +259,7 @@ fn is_tailed(state: Decoder) -> bool
 
 // Are the bytes those that were taken, and is every number within its bounds? No sum is made that could wrap.
 fn is_balanced(state: Decoder) -> bool
-    ensures { λ r. ⌜ r ≡ the.balanced state ⌝ }
+    ensures { λ r. ⌜ r ≡ steps.balanced state ⌝ }
 {
     if Decoder::LIMIT < state.taken {
         return false;
@@ -287,9 +293,11 @@ fn is_sound(state: Decoder) -> bool
     is_balanced(state)
 }
 
+// ---- a piece behind what is pending
+
 // The tally that a state begins with.
 fn open_tally(state: Decoder) -> Tally
-    ensures { λ r. ⌜ r ≡ the.tallyOf state ⌝ }
+    ensures { λ r. ⌜ r ≡ steps.tallyOf state ⌝ }
 {
     Tally {
         whole: state.whole,
@@ -302,7 +310,7 @@ fn open_tally(state: Decoder) -> Tally
 // The state that keeps a tally and what is left.
 fn keep(left: &[u8], tally: Tally, taken: usize, room: usize) -> Decoder
     requires { ⌜ length (now left) ≤ 3 ⌝ }
-    ensures { λ r. ⌜ r ≡ the.keeping (now (left .entry)) tally taken room ⌝ }
+    ensures { λ r. ⌜ r ≡ steps.keeping (now (left .entry)) tally taken room ⌝ }
 {
     let mut held = [0u8; 3];
     copy(left, &mut held);
@@ -348,8 +356,8 @@ fn feed_rest(
     out: &mut [u8],
     list: &mut [u32],
 ) -> Fed
-    requires { ⌜ the.Rests state (now seam) (now rest) (now list) ⌝ }
-    ensures { λ r. ⌜ the.Answers state taken (the.behind state (now (seam .entry)) (now (rest .entry)) (now (list .entry)))
+    requires { ⌜ steps.Rests state (now seam) (now rest) (now list) ⌝ }
+    ensures { λ r. ⌜ steps.Answers state taken (steps.behind state (now (seam .entry)) (now (rest .entry)) (now (list .entry)))
         (now (out .entry)) (now (list .entry)) (now (out .exit)) (now (list .exit)) r ⌝ }
 {
     let needed = places(utf8::segment(seam)) + need(rest);
@@ -370,8 +378,8 @@ fn feed_rest(
 }
 // A piece is fed to a state that may take it: the seam tells whether anything is settled yet.
 fn feed_seam(seam: &[u8], state: Decoder, piece: &[u8], out: &mut [u8], list: &mut [u32]) -> Fed
-    requires { ⌜ the.Seams state (now piece) (now list) (now seam) ⌝ }
-    ensures { λ r. ⌜ the.Answers state (state .taken + length (now (piece .entry))) (fed state (now (piece .entry)) (now (list .entry)))
+    requires { ⌜ steps.Seams state (now piece) (now list) (now seam) ⌝ }
+    ensures { λ r. ⌜ steps.Answers state (state .taken + length (now (piece .entry))) (fed state (now (piece .entry)) (now (list .entry)))
         (now (out .entry)) (now (list .entry)) (now (out .exit)) (now (list .exit)) r ⌝ }
 {
     let taken = state.taken + piece.len();
@@ -385,6 +393,8 @@ fn feed_seam(seam: &[u8], state: Decoder, piece: &[u8], out: &mut [u8], list: &m
     let from = size - state.pending;
     feed_rest(seam, &piece[from..], state, taken, out, list)
 }
+
+// ---- the calls
 
 // The state of a start.
 pub fn start(room: usize) -> Started
@@ -431,7 +441,7 @@ pub fn feed(state: Decoder, piece: &[u8], out: &mut [u8], list: &mut [u32]) -> F
 
 // Ends a text whose pending bytes are one damage.
 fn finish_pending(state: Decoder, out: &mut [u8], list: &mut [u32]) -> Finished
-    requires { ⌜ the.Ends state (now list) ⌝ }
+    requires { ⌜ steps.Ends state (now list) ⌝ }
     ensures { λ r. ⌜ Finishes state (now (out .entry)) (now (list .entry)) (now (out .exit)) (now (list .exit)) r ⌝ }
 {
     if out.len() < 3 {

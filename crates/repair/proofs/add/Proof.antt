@@ -2,7 +2,7 @@
 -- Assumes nothing.
 use mathlib.Core.Path.{ap}
 use native.Mathlib.Omega.{arith}
-use Rattle.repair.specs.Settled.{settledSize, places}
+use Rattle.repair.specs.Steps.{settledSize, places}
 use borrow.Author.Needs.{needs}
 use Rattle.repair.proofs.add.Statement.{statement}
 use Rattle.repair.proofs.add.Tie as tie

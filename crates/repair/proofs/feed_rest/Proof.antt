@@ -5,7 +5,7 @@ use mathlib.Core.Path.{_≡_, sym, _∙_}
 use lib.ListN.{length}
 use native.Mathlib.Omega.{arith}
 use Rattle.terms.proofs.Walking.{part-is}
-use Rattle.repair.specs.Settled.{firstNeed, need, tallyOf, behind, Steps}
+use Rattle.repair.specs.Steps.{firstNeed, need, tallyOf, behind, Steps}
 use Rattle.repair.proofs.Settling.{told}
 use Rattle.repair.proofs.Acting.{told-places, acts-append}
 use Rattle.repair.proofs.Passing.{need-small, left-short}
@@ -78,7 +78,8 @@ settle-requires c κs =
     let s = c .before .before .before .before .before .before in
     let e = s .before .before .before .before in
     let z = e .before .before .before .before .before .before .before .before in
-    rests-next (z .args .state) (z .args .seam .now) (z .args .rest .now) (z .args .list .now) (z .pre) (z .args .out .now) (enough e) (stepped s .acts)
+    rests-next (z .args .state) (z .args .seam .now) (z .args .rest .now) (z .args .list .now) (z .pre) (z .args .out .now) (enough e)
+    (stepped s .acts)
 
 sub-keep : tie.Need-sub-keep
 sub-keep c = search needs
@@ -92,7 +93,8 @@ part-keep-end c = search needs
 keep-requires : tie.Need-keep-requires
 keep-requires c κs =
     let a = c .before .before .before .before .before in
-    let text = a .before .before .before .before .before .before .before .before .before .before .before .before .before .before .before .before .before .before .before .args .rest .now in
+    let s = a .before .before .before .before .before .before .before in
+    let text = s .before .before .before .before .before .before .before .before .before .before .before .before .args .rest .now in
     rw (part-is, a .settle .ensures .left) (left-short text)
 
 same-length : tie.Need-same-length

@@ -8,7 +8,7 @@ use native.Mathlib.Omega.{arith}
 use Rattle.division.specs.Stream.{State}
 use Rattle.division.specs.Tally.{total, size, Log}
 use Rattle.terms.proofs.Walking.{part-is}
-use Rattle.repair.specs.Settled.{settled, Rests, behind, Answers}
+use Rattle.repair.specs.Steps.{settled, Rests, behind, Answers}
 use Rattle.repair.proofs.Settling.{told}
 use Rattle.repair.proofs.Seaming.{seam-short, seam-fed, seam-over, seam-inside, seam-behind, seam-rests}
 use Rattle.repair.proofs.Answering.{answers-still}
@@ -54,7 +54,8 @@ returns c =
 -- the segment reaches over what is pending, and ends in the piece
 over : (c : tie.Else1)
     → let z = c .before .before .before .before .before .before .before .before in
-    (z .args .state .pending ≤ c .before .settled-size .result) × (c .before .settled-size .result - z .args .state .pending ≤ length (z .args .piece .now))
+    (z .args .state .pending ≤ c .before .settled-size .result)
+    × (c .before .settled-size .result - z .args .state .pending ≤ length (z .args .piece .now))
 over c =
     let z = c .before .before .before .before .before .before .before .before in
     let a = z .args in

@@ -35,7 +35,8 @@ least-requires c κs = search needs
 
 -- so many bytes of the piece
 part : (c : tie.After-least)
-    → length (take (c .least .result) (c .before .before .before .before .before .before .before .before .before .args .piece .now)) ≡ c .least .result
+    → let piece = c .before .before .before .before .before .before .before .before .before .args .piece .now in
+    length (take (c .least .result) piece) ≡ c .least .result
 part c =
     let piece = c .before .before .before .before .before .before .before .before .before .args .piece .now in
     let h : c .least .result ≤ length piece = omega (arith, c .least .ensures) in

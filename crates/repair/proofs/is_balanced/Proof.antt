@@ -19,17 +19,22 @@ returns-4 : tie.Need-returns-4
 returns-4 c = unbalanced (c .before .before .before .before .before .before .before .before .before .before .args .state) (λ b. omega arith)
 
 returns-5 : tie.Need-returns-5
-returns-5 c = unbalanced (c .before .before .before .before .before .before .before .before .before .before .before .before .args .state) (λ b. omega arith)
+returns-5 c =
+    let d = c .before .before .before .before .before .before .before .before .before .before .before .before .args .state in
+    unbalanced d (λ b. omega arith)
 
 mul-if6 : tie.Need-mul-if6
 mul-if6 c = search needs
 
 returns-6 : tie.Need-returns-6
-returns-6 c = unbalanced (c .before .before .before .before .before .before .before .before .before .before .before .before .before .before .before .args .state) (λ b. omega arith)
+returns-6 c =
+    let e = c .before .before .before .before .before .before .before .before in
+    unbalanced (e .before .before .before .before .before .before .before .args .state) (λ b. omega arith)
 
 returns-7 : tie.Need-returns-7
 returns-7 c =
-    let d = c .before .before .before .before .before .before .before .before .before .before .before .before .before .before .before .before .args .state in
+    let e = c .before .before .before .before .before .before .before .before in
+    let d = e .before .before .before .before .before .before .before .before .args .state in
     balanced-room d (omega arith) (omega arith) (omega arith) (omega arith)
 
 pub is-balanced-spec : {M : Type 1} → statement M

@@ -65,7 +65,8 @@ returns-3 c =
     = take-all (3 - d .pending) (drop (d .pending) (d .held)) (omega (arith, three z, length-drop (d .pending) (d .held))) in
     c .is-zero .ensures
     ∙ ap zeros p
-    ∙ tailed-rest d (s .before .before .before .if1 .left) (pending-none (left d) (sym (seen s .size-is) ∙ sym (g .before .settled-size .ensures) ∙ g .if2 .left))
+    ∙ tailed-rest d (s .before .before .before .if1 .left)
+    (pending-none (left d) (sym (seen s .size-is) ∙ sym (g .before .settled-size .ensures) ∙ g .if2 .left))
 
 pub is-tailed-spec : {M : Type 1} → statement M
 is-tailed-spec =

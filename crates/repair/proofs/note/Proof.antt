@@ -2,7 +2,7 @@
 -- Assumes nothing.
 use mathlib.Core.Path.{ap, _∙_}
 use native.Mathlib.Omega.{arith}
-use Rattle.repair.specs.Settled.{settledSize}
+use Rattle.repair.specs.Steps.{settledSize}
 use borrow.Author.Needs.{needs}
 use Rattle.repair.proofs.note.Statement.{statement}
 use Rattle.repair.proofs.note.Tie as tie

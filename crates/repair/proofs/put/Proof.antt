@@ -5,7 +5,7 @@ use mathlib.Core.Path.{_≡_, sym, ap, _∙_}
 use lib.ListN.{length, take}
 use lib.Seq.{length-take-le}
 use native.Mathlib.Omega.{arith}
-use Rattle.repair.specs.Settled.{settledSize, places}
+use Rattle.repair.specs.Steps.{settledSize, places}
 use borrow.Author.Needs.{needs}
 use Rattle.repair.proofs.put.Statement.{statement}
 use Rattle.repair.proofs.put.Tie as tie

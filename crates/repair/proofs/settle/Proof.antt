@@ -5,7 +5,7 @@ use lib.ListN.{length, drop}
 use native.Mathlib.Omega.{arith}
 use borrow.Author.Needs.{needs}
 use Rattle.terms.proofs.Walking.{part-is}
-use Rattle.repair.specs.Settled.{Steps}
+use Rattle.repair.specs.Steps.{Steps}
 use Rattle.repair.proofs.Acting.{acts-row, ready-step}
 use Rattle.repair.proofs.Passing.{Acted, acted-start, acted-next, acted-end}
 use Rattle.repair.proofs.settle.Statement.{statement}
@@ -18,7 +18,9 @@ abbrev μ-loop : tie.MeasureT-loop
 μ-loop text room out₀ list₀ at₀ tally₀ out list at tally = length text - at
 
 loop-holds : tie.Need-loop-holds Inv-loop μ-loop
-loop-holds c = let z = c .before .before .before in acted-start (z .args .room) (z .args .text .now) (z .args .tally) (z .args .out .now) (z .args .list .now) (z .pre)
+loop-holds c =
+    let z = c .before .before .before in
+    acted-start (z .args .room) (z .args .text .now) (z .args .tally) (z .args .out .now) (z .args .list .now) (z .pre)
 
 sub-step : tie.Need-sub-step Inv-loop μ-loop
 sub-step c = search needs
