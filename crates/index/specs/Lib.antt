@@ -1,2 +1,3 @@
 pub mod Checkpoints
 pub mod Looking
+pub mod Choosing

@@ -11,12 +11,9 @@ use Rattle.terms.specs.Strict.{limited}
 use Rattle.utf8.specs.Bytes.{bytes}
 use Rattle.place.specs.Measures.{ruler}
 use Rattle.place.specs.Lookup.{foundSays}
+use Rattle.place.specs.Walk.{fair}
 use Rattle.place.specs.declared.Place.{Place}
 use Rattle.index.specs.Checkpoints.{spacing, needed, placeOf, indexOf}
-
--- the counts that are not in bytes are within the limit
-abbrev pub fair : Place → Bool
-fair p = leb (p .units) limit && leb (p .points) limit && leb (p .lines) limit
 
 -- checkpoint k, as the index has it
 abbrev pub checkpoint : List ℕ → ℕ → Place

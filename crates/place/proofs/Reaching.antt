@@ -1,27 +1,30 @@
 -- What a walk over the places of a text has reached, and the answers of lookup and cutting at its end.
 -- Assumes nothing.
-use mathlib.Core.Path.{_≡_, refl, ap, _∙_}
+use mathlib.Core.Path.{_≡_, refl, sym, ap, _∙_}
 use Prim.Native.Nat.{ℕ, _+_, _-_, _^_, _≤_, _<_}
+use mathlib.Core.Bool.{true, false, _&&_}
 use mathlib.Core.List.{List, [], _∷_}
 use lib.ListN.{length, take, drop, length-drop, drop-of-length-le}
 use lib.Seq.{drop-length}
-use borrow.Author.Tests.{lt-ltb, le-ltb, eq-eqb, ne-eqb}
+use lib.Dec.{leb}
+use borrow.Author.Tests.{ltb-false, leb-true, lt-ltb, le-ltb, eq-eqb, ne-eqb}
 use native.Mathlib.Omega.{arith}
 use Rattle.division.specs.Reader.{Segment, cut}
 use Rattle.division.specs.Table.{Kind}
 use Rattle.division.specs.Tally.{size}
 use Rattle.division.specs.Place.{here, lookup, last}
+use Rattle.division.proofs.Cases.{both}
 use Rattle.division.proofs.Dividing.{cut-nil}
-use Rattle.division.proofs.Placing.{last-over, last-here}
+use Rattle.division.proofs.Placing.{last-over, last-here, last-boundary, place-in}
 use Rattle.terms.specs.Limits.{limit}
 use Rattle.terms.proofs.Walking.{part-is}
 use Rattle.utf8.specs.Bytes.{bytes}
 use Rattle.place.specs.Measures.{unitsOf, linesOf, ruler}
-use Rattle.place.specs.Cutting.{ending, beginning}
+use Rattle.place.specs.Cutting.{ending}
 use Rattle.place.specs.Lookup.{counts, lookupSays}
-use Rattle.place.specs.Walk.{Roomy, Ahead, resumeSays}
+use Rattle.place.specs.Walk.{Roomy, Ahead, walkSays, reached, fair, over, going}
 use Rattle.place.specs.declared.Place.{Place}
-use Rattle.place.proofs.Measuring.{one-or-none}
+use Rattle.place.proofs.Measuring.{measured, one-or-none}
 use Rattle.place.proofs.Stepping.{Taken}
 
 -- THE WAY: F of the whole text is F of the rest at the place that is reached
@@ -75,7 +78,7 @@ module _ (m : Place → ℕ) (o : ℕ) {from : Place} {text : List ℕ} {at : �
   seeks-next h t e = reached-next r t e (λ ss. rw (lt-ltb (m p) o h, t .place))
 
   -- or the text has ended
-  pub seeks-past : m p < o → at ≡ length text → 4 ∷ [] ≡ resumeSays m o from text
+  pub seeks-past : m p < o → at ≡ length text → 4 ∷ [] ≡ walkSays m o from text
   seeks-past h e = rw (r .same, e, drop-length text, cut-nil bytes, lt-ltb (m p) o h)
 
   -- the count is the offset, or more
@@ -83,10 +86,10 @@ module _ (m : Place → ℕ) (o : ℕ) {from : Place} {text : List ℕ} {at : �
   stops h [] = rw (le-ltb (m p) o h)
   stops h (s ∷ ss) = rw (le-ltb (m p) o h)
 
-  pub seeks-at : m p ≡ o → 0 ∷ counts p ≡ resumeSays m o from text
+  pub seeks-at : m p ≡ o → 0 ∷ counts p ≡ walkSays m o from text
   seeks-at e = rw (r .same, stops (omega arith), eq-eqb (m p) o e)
 
-  pub seeks-inside : o < m p → 5 ∷ [] ≡ resumeSays m o from text
+  pub seeks-inside : o < m p → 5 ∷ [] ≡ walkSays m o from text
   seeks-inside h = rw (r .same, stops (omega arith), ne-eqb (m p) o (omega arith))
 
 -- refusal 2 goes before
@@ -94,33 +97,51 @@ module _ (m : Place → ℕ) (o : ℕ) (text : List ℕ) where
   pub lookup-over : limit < length text → 2 ∷ [] ≡ lookupSays m o text
   lookup-over h = rw (lt-ltb limit (length text) h)
 
-  pub lookup-within : length text ≤ limit → resumeSays m o (ruler .zeroth) text ≡ lookupSays m o text
+  pub lookup-within : length text ≤ limit → walkSays m o (ruler .zeroth) text ≡ lookupSays m o text
   lookup-within h = rw (le-ltb limit (length text) h)
 
--- ---- the end of what is cut, by any measure
+-- ---- the last place, by any measure
 
-abbrev pub Keeps : (Place → ℕ) → ℕ → List ℕ → ℕ → Place → Type 0
-Keeps m most = Reached (last (ruler .step) m most) (ruler .zeroth)
+abbrev pub Keeps : (Place → ℕ) → ℕ → Place → List ℕ → ℕ → Place → Type 0
+Keeps m most = Reached (last (ruler .step) m most)
 
-pub keeps-start : (m : Place → ℕ) (most : ℕ) (text : List ℕ) → length text < 2 ^ 64 → Keeps m most text 0 (ruler .zeroth)
-keeps-start m most text h = reached-start (last (ruler .step) m most) (start-roomy text h)
-
-module _ (m : Place → ℕ) (most : ℕ) {text : List ℕ} {at : ℕ} {p : Place} (r : Keeps m most text at p) where
+module _ (m : Place → ℕ) (most : ℕ) {from : Place} {text : List ℕ} {at : ℕ} {p : Place} (r : Keeps m most from text at p) where
   -- the next segment is within the maximum
-  pub keeps-next : {at′ : ℕ} {q : Place} → Taken text at p q → m q ≤ most → q .bytes ≡ 0 + at′ → Keeps m most text at′ q
+  pub keeps-next : {at′ : ℕ} {q : Place} → Taken text at p q → m q ≤ most → q .bytes ≡ from .bytes + at′ → Keeps m most from text at′ q
   keeps-next t h e =
       reached-next r t e (λ ss. last-over (ruler .step) m most p (t .segment) ss (rw (t .place) at h) ∙ rw (← t .place))
 
-  ends : last (ruler .step) m most p (cut bytes (drop at text)) ≡ p → take at text ≡ beginning m most text
-  ends e =
-      let n : at ≡ ending m most text = omega (arith, r .bytes-are, ap (λ (q : Place). q .bytes) (r .same ∙ e)) in
-      ap (λ (k : ℕ). take k text) n
-
   -- the next segment goes over it, or the text has ended
-  pub keeps-over : {q : Place} → Taken text at p q → most < m q → take at text ≡ beginning m most text
+  pub keeps-over : {q : Place} → Taken text at p q → most < m q → p ≡ reached m most from text
   keeps-over t h =
       let s = t .segment in
-      ends (rw (t .cuts) (last-here (ruler .step) m most p s (cut bytes (drop (at + size s) text)) (rw (t .place) at h)))
+      rw (r .same, t .cuts) (sym (last-here (ruler .step) m most p s (cut bytes (drop (at + size s) text)) (rw (t .place) at h)))
 
-  pub keeps-end : length text ≤ at → take at text ≡ beginning m most text
-  keeps-end h = ends (rw (drop-of-length-le text h, cut-nil bytes))
+  pub keeps-end : length text ≤ at → p ≡ reached m most from text
+  keeps-end h = rw (r .same, drop-of-length-le text h, cut-nil bytes)
+
+-- from the start of a text it lies in the text
+pub ending-in : (m : Place → ℕ) (most : ℕ) (text : List ℕ) → ending m most text ≤ length text
+ending-in m most text = place-in bytes measured text (last-boundary (ruler .step) m most (ruler .zeroth) (cut bytes text))
+
+-- ---- from any place on: the refusals, and that no count can go past the largest number after them
+
+module _ (from : Place) (text granted : List ℕ) where
+  pub going-over : over from (length text) ≡ true → 2 ∷ [] ≡ going from text granted
+  going-over e = rw e
+
+  pub going-unfair : over from (length text) ≡ false → fair from ≡ false → 8 ∷ [] ≡ going from text granted
+  going-unfair e f = rw (e, f)
+
+  pub going-on : over from (length text) ≡ false → fair from ≡ true → going from text granted ≡ granted
+  going-on e f = rw (e, f)
+
+pub going-roomy : (from : Place) (text : List ℕ) → over from (length text) ≡ false → fair from ≡ true → Roomy from text
+going-roomy from text e f =
+    let l = both (leb (from .units) limit && leb (from .points) limit) (leb (from .lines) limit) f in
+    let u = both (leb (from .units) limit) (leb (from .points) limit) (l .0) in
+    let b : from .bytes + length text ≤ limit = ltb-false limit (from .bytes + length text) e in
+    let bu : from .units ≤ limit = leb-true (from .units) limit (u .0) in
+    let bc : from .points ≤ limit = leb-true (from .points) limit (u .1) in
+    let bl : from .lines ≤ limit = leb-true (from .lines) limit (l .1) in
+    record { bytes = omega arith; units = omega arith; points = omega arith; lines = omega arith }

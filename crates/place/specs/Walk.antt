@@ -1,15 +1,16 @@
--- A walk over the places of a text: the offset that it goes to, one step of it, and lookup from a place on.
+-- A walk over the places of a text: the offset that it goes to, one step of it, and what is found from a place on.
 -- Assumes nothing.
 use Prim.Native.Nat.{ℕ, _+_, _<_, _^_}
-use mathlib.Core.Bool.{cond}
+use mathlib.Core.Bool.{Bool, cond, _&&_}
 use mathlib.Core.List.{List, [], _∷_}
 use lib.ListN.{length}
-use lib.Dec.{eqb}
+use lib.Dec.{leb, ltb, eqb}
 use Rattle.division.specs.Reader.{first, cut}
-use Rattle.division.specs.Place.{lookup}
+use Rattle.division.specs.Place.{lookup, last}
+use Rattle.terms.specs.Limits.{limit}
 use Rattle.utf8.specs.Bytes.{bytes}
 use Rattle.place.specs.Measures.{ruler}
-use Rattle.place.specs.Lookup.{foundSays}
+use Rattle.place.specs.Lookup.{counts, foundSays}
 use Rattle.place.specs.declared.Place.{Place}
 use Rattle.place.specs.declared.Offset.{Offset}
 use Rattle.place.specs.declared.Offset.the-variants.{Byte, Unit, Point, Line}
@@ -51,6 +52,30 @@ pub record Ahead (p : Place) (rest : List ℕ) : Type 0 where
   pub some : 0 < length rest
   pub roomy : Roomy p rest
 
--- plain lookup from a place on, from which on the rest of the text is given
+-- ---- from a place on, from which on the rest of the text is given
+
+-- plain lookup
+abbrev pub walkSays : (Place → ℕ) → ℕ → Place → List ℕ → List ℕ
+walkSays measure offset from rest = foundSays (lookup (ruler .step) measure offset from (cut bytes rest))
+
+-- the last place whose count is at most `most`
+abbrev pub reached : (Place → ℕ) → ℕ → Place → List ℕ → Place
+reached measure most from rest = last (ruler .step) measure most from (cut bytes rest)
+
+-- the counts that are not in bytes are within the limit
+abbrev pub fair : Place → Bool
+fair p = leb (p .units) limit && leb (p .points) limit && leb (p .lines) limit
+
+-- so many bytes more go past the limit
+abbrev pub over : Place → ℕ → Bool
+over p more = ltb limit (p .bytes + more)
+
+-- refusal 2 where the text does, then 8 where a count is not fair
+abbrev pub going : Place → List ℕ → List ℕ → List ℕ
+going from rest granted = cond (over from (length rest)) (2 ∷ []) (cond (fair from) granted (8 ∷ []))
+
 abbrev pub resumeSays : (Place → ℕ) → ℕ → Place → List ℕ → List ℕ
-resumeSays measure offset from rest = foundSays (lookup (ruler .step) measure offset from (cut bytes rest))
+resumeSays measure offset from rest = going from rest (walkSays measure offset from rest)
+
+abbrev pub lastSays : (Place → ℕ) → ℕ → Place → List ℕ → List ℕ
+lastSays measure most from rest = going from rest (0 ∷ counts (reached measure most from rest))

@@ -5,7 +5,8 @@ ghost use mathlib.Core.Path.{_≡_};
 ghost use Rattle.place.specs.Measures.{place};
 ghost use Rattle.place.specs.Cutting.{beginning};
 ghost use Rattle.place.specs.Lookup.{placed, lookupSays};
-ghost use Rattle.place.specs.Walk.{number, measure, unitsBySize, linesByHead, stepped, Roomy, Ahead, resumeSays};
+ghost use Rattle.place.specs.Walk.{number, measure, unitsBySize, linesByHead, stepped, Roomy, Ahead};
+ghost use Rattle.place.specs.Walk.{walkSays, reached, fair, over, resumeSays, lastSays};
 
 // Offsets in the four measures: none is passed for another.
 pub struct Bytes(pub usize);
@@ -17,7 +18,7 @@ pub struct Points(pub usize);
 pub struct Lines(pub usize);
 
 // An offset in one of them.
-enum Offset {
+pub enum Offset {
     Byte(Bytes),
     Unit(Units),
     Point(Points),
@@ -26,7 +27,7 @@ enum Offset {
 
 impl Offset {
     // Its number.
-    fn number(self) -> usize
+    pub fn number(self) -> usize
         ensures { λ r. ⌜ r ≡ number self ⌝ }
     {
         match self {
@@ -38,7 +39,7 @@ impl Offset {
     }
 
     // What a place counts in its measure.
-    fn count(self, p: Place) -> usize
+    pub fn count(self, p: Place) -> usize
         ensures { λ r. ⌜ r ≡ measure self p ⌝ }
     {
         match self {
@@ -60,7 +61,7 @@ pub struct Place {
 
 impl Place {
     // The start of a text.
-    fn start() -> Place
+    pub fn start() -> Place
         ensures { λ r. ⌜ r ≡ place 0 0 0 0 ⌝ }
     {
         Place {
@@ -69,6 +70,22 @@ impl Place {
             points: 0,
             lines: 0,
         }
+    }
+
+    // The counts that are not in bytes are within the limit.
+    pub fn fair(self) -> bool
+        ensures { λ r. ⌜ r ≡ fair self ⌝ }
+    {
+        self.units <= Decoder::LIMIT
+            && self.points <= Decoder::LIMIT
+            && self.lines <= Decoder::LIMIT
+    }
+
+    // So many bytes more go past the limit.
+    fn over(self, more: usize) -> bool
+        ensures { λ r. ⌜ r ≡ over self more ⌝ }
+    {
+        Decoder::LIMIT < self.bytes || Decoder::LIMIT - self.bytes < more
     }
 }
 
@@ -106,27 +123,36 @@ fn step(p: Place, rest: &[u8]) -> Place
     }
 }
 
-// The longest beginning of a text that ends at a boundary and counts at most so much.
-fn cut(text: &[u8], most: Offset) -> &[u8]
-    ensures { λ r. ⌜ now r ≡ beginning (measure most) (number most) (now (text .entry)) ⌝ }
+// The last place that counts at most so much, from a place on; the text is given from there.
+fn reach(text: &[u8], from: Place, most: Offset) -> Place
+    requires { ⌜ Roomy from (now text) ⌝ }
+    ensures { λ r. ⌜ r ≡ reached (measure most) (number most) from (now (text .entry)) ⌝ }
 {
-    let mut p = Place::start();
+    let mut p = from;
     let mut at: usize = 0;
     while at < text.len() {
         let q = step(p, &text[at..]);
         if most.number() < most.count(q) {
-            return &text[..at];
+            return p;
         }
         p = q;
-        at = q.bytes;
+        at = q.bytes - from.bytes;
     }
-    &text[..at]
+    p
+}
+
+// The longest beginning of a text that ends at a boundary and counts at most so much.
+fn cut(text: &[u8], most: Offset) -> &[u8]
+    ensures { λ r. ⌜ now r ≡ beginning (measure most) (number most) (now (text .entry)) ⌝ }
+{
+    let end = reach(text, Place::start(), most);
+    &text[..end.bytes]
 }
 
 // Plain lookup from a place on; the text is given from there.
-fn resume(text: &[u8], from: Place, to: Offset) -> Placed
+fn walk(text: &[u8], from: Place, to: Offset) -> Placed
     requires { ⌜ Roomy from (now text) ⌝ }
-    ensures { λ r. ⌜ placed r ≡ resumeSays (measure to) (number to) from (now (text .entry)) ⌝ }
+    ensures { λ r. ⌜ placed r ≡ walkSays (measure to) (number to) from (now (text .entry)) ⌝ }
 {
     let offset = to.number();
     let mut p = from;
@@ -154,7 +180,33 @@ fn lookup(text: &[u8], to: Offset) -> Placed
     if Decoder::LIMIT < text.len() {
         return Placed::Refused(Refusal::OverLimit);
     }
-    resume(text, Place::start(), to)
+    walk(text, Place::start(), to)
+}
+
+// Plain lookup from any place on, where the text is given from there: refusal 2 and 8 before the walk.
+pub fn resume(text: &[u8], from: Place, to: Offset) -> Placed
+    ensures { λ r. ⌜ placed r ≡ resumeSays (measure to) (number to) from (now (text .entry)) ⌝ }
+{
+    if from.over(text.len()) {
+        return Placed::Refused(Refusal::OverLimit);
+    }
+    if !from.fair() {
+        return Placed::Refused(Refusal::BadState);
+    }
+    walk(text, from, to)
+}
+
+// The last place that counts at most so much from any place on, with the same refusals.
+pub fn last(text: &[u8], from: Place, most: Offset) -> Placed
+    ensures { λ r. ⌜ placed r ≡ lastSays (measure most) (number most) from (now (text .entry)) ⌝ }
+{
+    if from.over(text.len()) {
+        return Placed::Refused(Refusal::OverLimit);
+    }
+    if !from.fair() {
+        return Placed::Refused(Refusal::BadState);
+    }
+    Placed::At(reach(text, from, most))
 }
 
 // The longest beginning that ends at a boundary and has at most so many bytes, units or code points.

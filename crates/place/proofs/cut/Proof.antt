@@ -1,108 +1,39 @@
--- `place::cut` meets its contract: from the place that the walk has come to, what is kept still ends at the same place.
+-- `place::cut` meets its contract: it ends where the last place lies that counts at most so much.
 -- Assumes nothing.
-use Prim.Native.Nat.{_-_}
-use lib.ListN.{length, length-take}
+use mathlib.Core.Path.{_≡_, sym, ap, _∙_}
+use lib.ListN.{take}
+use lib.Seq.{length-take-le}
 use native.Mathlib.Omega.{arith}
 use borrow.Author.Needs.{needs}
-use Rattle.place.specs.Walk.{number, measure}
-use Rattle.place.proofs.Stepping.{Taken, taken}
-use Rattle.place.proofs.Reaching.{reached-ahead, Keeps, keeps-start, keeps-next, keeps-over, keeps-end}
+use Rattle.place.specs.Cutting.{ending}
+use Rattle.place.specs.Walk.{number, measure, reached}
+use Rattle.place.specs.declared.Place.{Place}
+use Rattle.place.proofs.Reaching.{start-roomy, ending-in}
 use Rattle.place.proofs.cut.Statement.{statement}
 use Rattle.place.proofs.cut.Tie as tie
 
-abbrev Inv-loop : tie.InvT-loop
-Inv-loop text most p₀ at₀ p at = Keeps (measure most) (number most) text at p
-
-abbrev μ-loop : tie.MeasureT-loop
-μ-loop text most p₀ at₀ p at = length text - at
-
-start-requires : tie.Need-start-requires Inv-loop μ-loop
+start-requires : tie.Need-start-requires
 start-requires c κs = search needs
 
-loop-holds : tie.Need-loop-holds Inv-loop μ-loop
-loop-holds c =
-    let a = c .before .before in
-    rw (c .start .ensures) (keeps-start (measure (a .args .most)) (number (a .args .most)) (a .args .text .now) (omega arith))
+reach-requires : tie.Need-reach-requires
+reach-requires c κs = rw (c .start .ensures) (start-roomy (c .before .before .args .text .now) (omega arith))
 
-sub-step : tie.Need-sub-step Inv-loop μ-loop
-sub-step c = search needs
+-- where it ends
+end : (c : tie.After-reach)
+    → let a = c .before .before .before .args in c .reach .result .bytes ≡ ending (measure (a .most)) (number (a .most)) (a .text .now)
+end c =
+    let a = c .before .before .before .args in
+    let from-start = ap (λ (p : Place). reached (measure (a .most)) (number (a .most)) p (a .text .now)) (c .before .start .ensures) in
+    ap (λ (p : Place). p .bytes) (c .reach .ensures ∙ from-start)
 
-part-step-start : tie.Need-part-step-start Inv-loop μ-loop
-part-step-start c = search needs
+slice-aggregate-result : tie.Need-slice-aggregate-result
+slice-aggregate-result c =
+    let r = c .before in
+    let a = r .before .before .before .args in
+    sym (length-take-le (r .reach .result .bytes) (a .text .now) (rw (end r) (ending-in (measure (a .most)) (number (a .most)) (a .text .now))))
 
-part-step-end : tie.Need-part-step-end Inv-loop μ-loop
-part-step-end c = search needs
-
-step-requires : tie.Need-step-requires Inv-loop μ-loop
-step-requires c κs = reached-ahead (c .before .before .loop .inv) (c .before .loop-test .taken)
-
-number-requires : tie.Need-number-requires Inv-loop μ-loop
-number-requires c κs = search needs
-
-count-requires : tie.Need-count-requires Inv-loop μ-loop
-count-requires c κs = search needs
-
-slice-aggregate-result : tie.Need-slice-aggregate-result Inv-loop μ-loop
-slice-aggregate-result c = simp length-take (omega arith)
-
--- one segment more
-turned : (c : tie.After-step Inv-loop μ-loop)
-    → let l = c .before .before .before in Taken (l .before .before .before .args .text .now) (l .loop .at) (l .loop .p) (c .step .result)
-turned c =
-    let t = c .before .before in
-    let l = t .before in
-    taken (l .before .before .before .args .text .now) (l .loop .at) (l .loop .p) (c .step .result) (t .loop-test .taken) (c .step .ensures)
-
-returns : tie.Need-returns Inv-loop μ-loop
-returns c =
-    let n = c .before .before in
-    let s = n .before .before in
-    let l = s .before .before .before in
-    let most = l .before .before .before .args .most in
-    keeps-over (measure most) (number most) (l .loop .inv) (turned s)
-    (omega (arith, n .count .ensures, n .before .number .ensures, c .before .if1 .taken))
-
-loop-less : tie.Need-loop-less Inv-loop μ-loop
-loop-less c =
-    let s = c .before .before .before in
-    let t = turned s in
-    omega (arith, t .bytes-are, t .inside, s .before .before .before .loop .inv .bytes-are)
-
-loop-again : tie.Need-loop-again Inv-loop μ-loop
-loop-again c =
-    let n = c .before in
-    let s = n .before .before in
-    let l = s .before .before .before in
-    let most = l .before .before .before .args .most in
-    keeps-next (measure most) (number most) (l .loop .inv) (turned s)
-    (omega (arith, n .count .ensures, n .before .number .ensures, c .if1 .left)) (omega arith)
-
-slice-aggregate-result-2 : tie.Need-slice-aggregate-result-2 Inv-loop μ-loop
-slice-aggregate-result-2 c = simp length-take (omega arith)
-
-returns-2 : tie.Need-returns-2 Inv-loop μ-loop
-returns-2 c =
-    let l = c .before .before in
-    let most = l .before .before .before .args .most in
-    keeps-end (measure most) (number most) (l .loop .inv) (c .before .loop-test .left)
+returns : tie.Need-returns
+returns c = let r = c .before in ap (λ n. take n (r .before .before .before .args .text .now)) (end r)
 
 pub cut-spec : {M : Type 1} → statement M
-cut-spec =
-    tie.close
-    (tie.spec
-    Inv-loop
-    μ-loop
-    start-requires
-    loop-holds
-    sub-step
-    part-step-start
-    part-step-end
-    step-requires
-    number-requires
-    count-requires
-    slice-aggregate-result
-    returns
-    loop-less
-    loop-again
-    slice-aggregate-result-2
-    returns-2)
+cut-spec = tie.close (tie.spec start-requires reach-requires slice-aggregate-result returns)

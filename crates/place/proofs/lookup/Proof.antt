@@ -16,14 +16,14 @@ returns c =
 start-requires : tie.Need-start-requires
 start-requires c κs = search needs
 
-resume-requires : tie.Need-resume-requires
-resume-requires c κs = rw (c .start .ensures) (start-roomy (c .before .before .before .args .text .now) (omega arith))
+walk-requires : tie.Need-walk-requires
+walk-requires c κs = rw (c .start .ensures) (start-roomy (c .before .before .before .args .text .now) (omega arith))
 
 returns-2 : tie.Need-returns-2
 returns-2 c =
     let s = c .before in
     let a = s .before .before .before .args in
-    c .resume .ensures ∙ rw (s .start .ensures) (lookup-within (measure (a .to)) (number (a .to)) (a .text .now) (s .before .if1 .left))
+    c .walk .ensures ∙ rw (s .start .ensures) (lookup-within (measure (a .to)) (number (a .to)) (a .text .now) (s .before .if1 .left))
 
 pub lookup-spec : {M : Type 1} → statement M
-lookup-spec = tie.close (tie.spec returns start-requires resume-requires returns-2)
+lookup-spec = tie.close (tie.spec returns start-requires walk-requires returns-2)

@@ -1,0 +1,4 @@
+pub mod Entries
+pub mod Resuming
+pub mod Auditing
+pub mod Truth

@@ -1,0 +1,101 @@
+-- A row that begins with a text's index: lookup in it answers as plain lookup, and it is what the audit says yes to.
+-- Assumes nothing.
+use mathlib.Core.Path.{_≡_, refl, ap, _∙_}
+use mathlib.Core.Logic.{_↔_}
+use Prim.Native.Nat.{ℕ, _≤_, _<_}
+use mathlib.Core.Bool.{true, _&&_}
+use mathlib.Core.List.{List}
+use lib.ListN.{length, take, length-take}
+use lib.Dec.{leb, ltb}
+use borrow.Author.Tests.{ltb-false, leb-true, le-leb}
+use native.Mathlib.Omega.{arith}
+use Rattle.division.specs.Place.{Found, plain, mark}
+use Rattle.division.proofs.Cases.{split, both}
+use Rattle.division.proofs.Rows.{tab-length, written-fixed}
+use Rattle.division.proofs.Placing.{mark-place}
+use Rattle.division.proofs.Indexing.{True, bytes-true, rising-true, lines-true}
+use Rattle.division.proofs.Building.{row-true}
+use Rattle.terms.specs.Limits.{limit}
+use Rattle.utf8.specs.Bytes.{bytes}
+use Rattle.utf8.proofs.Rows.{bytes-division, bytes-top}
+use Rattle.place.specs.Measures.{ruler}
+use Rattle.place.specs.Lookup.{counts, foundSays, lookupSays}
+use Rattle.place.specs.Walk.{fair}
+use Rattle.place.specs.declared.Place.{Place}
+use Rattle.place.proofs.Measuring.{measured, Rising, units-rise, points-rise, lines-never-fall}
+use Rattle.index.specs.Checkpoints.{spacing, needed, placeOf, indexOf}
+use Rattle.index.specs.Looking.{checkpoint, indexed, byteSays, halvingSays, same, auditSays}
+use Rattle.index.proofs.Entries.{same-sound, same-refl}
+use Rattle.index.proofs.Resuming.{indexed-on}
+use Rattle.index.proofs.Auditing.{fair-place}
+
+-- the row's first numbers are the text's index
+abbrev pub Indexes : List ℕ → List ℕ → Type 0
+Indexes row text = take (needed (length text)) row ≡ indexOf text
+
+-- lookup by the row answers as plain lookup, by every measure
+pub record AsPlain (row text : List ℕ) : Type 0 where
+  pub bytes : (o : ℕ) → byteSays o text row ≡ lookupSays (λ p. p .bytes) o text
+  pub units : (o : ℕ) → halvingSays (λ p. p .units) leb o text row ≡ lookupSays (λ p. p .units) o text
+  pub points : (o : ℕ) → halvingSays (λ p. p .points) leb o text row ≡ lookupSays (λ p. p .points) o text
+  pub lines : (o : ℕ) → halvingSays (λ p. p .lines) ltb o text row ≡ lookupSays (λ p. p .lines) o text
+
+module _ (row text : List ℕ) (e : Indexes row text) where
+  long : length (indexOf text) ≡ needed (length text)
+  long = rw (written-fixed counts 4 (λ p. refl), tab-length)
+
+  room : needed (length text) ≤ length row
+  room = omega (arith, length-take (needed (length text)) row, ap length e, long)
+
+  good : True bytes ruler spacing (checkpoint row) text
+  good = row-true measured counts 4 spacing (omega arith) (λ p. refl) placeOf (λ p. refl) bytes row text e
+
+  fine : length text ≤ limit → (most : ℕ) → fair (mark bytes ruler most text) ≡ true
+  fine h most = fair-place text h (mark-place bytes ruler text most)
+
+  says : (found : Found Place) (m : Place → ℕ) (o : ℕ) → (length text ≤ limit → found ≡ plain bytes ruler m o text)
+      → indexed text row (foundSays found) ≡ lookupSays m o text
+  says found m o f = split (ltb limit (length text))
+      (λ t. rw t)
+      (λ t.
+      let h : length text ≤ limit = ltb-false limit (length text) t in
+      indexed-on text row (foundSays found) h room ∙ ap foundSays (f h) ∙ rw t)
+
+  -- A TRUE INDEX ANSWERS AS PLAIN LOOKUP
+  pub as-plain : AsPlain row text
+  as-plain = record {
+    bytes = λ o. says _ (λ p. p .bytes) o (λ h. bytes-true bytes-division measured 4 spacing fair tops text (fine h) (checkpoint row) good o);
+    units = risen (λ p. p .units) units-rise;
+    points = risen (λ p. p .points) points-rise;
+    lines = λ o.
+        says _ (λ p. p .lines) o
+        (λ h. lines-true bytes-division measured 4 spacing fair tops text (fine h) (checkpoint row) good (λ p. p .lines) lines-never-fall refl o);
+  }
+    where
+      tops : (x : ℕ) (xs : List ℕ) → bytes x xs .more < 4
+      tops x xs = omega (arith, bytes-top x xs)
+
+      risen : (m : Place → ℕ) → Rising m → (o : ℕ) → halvingSays m leb o text row ≡ lookupSays m o text
+      risen m r o =
+          says _ m o (λ h. rising-true bytes-division measured 4 spacing fair tops text (fine h) (checkpoint row) good m (r .rises) (r .none) o)
+
+-- THE AUDIT SAYS YES EXACTLY THEN, where the text is within the limit and the row is long enough
+pub audit-exactly : (text row : List ℕ)
+    → (auditSays text row ≡ true) ↔ ((length text ≤ limit) × (needed (length text) ≤ length row) × Indexes row text)
+audit-exactly text row = (yes, no)
+  where
+    n : ℕ
+    n = needed (length text)
+
+    yes : auditSays text row ≡ true → (length text ≤ limit) × (n ≤ length row) × Indexes row text
+    yes a =
+        let b = both (leb (length text) limit && leb n (length row)) (same (take n row) (indexOf text)) a in
+        let c = both (leb (length text) limit) (leb n (length row)) (b .0) in
+        (leb-true (length text) limit (c .0), leb-true n (length row) (c .1), same-sound (take n row) (indexOf text) (b .1))
+
+    no : (length text ≤ limit) × (n ≤ length row) × Indexes row text → auditSays text row ≡ true
+    no h = rw (le-leb (length text) limit (h .0), le-leb n (length row) (h .1), h .2) (same-refl (indexOf text))
+
+-- so that lookup in a row that was audited answers as plain lookup
+pub audit-plain : (text row : List ℕ) → auditSays text row ≡ true → AsPlain row text
+audit-plain text row a = as-plain row text (audit-exactly text row .0 a .2)
