@@ -57,10 +57,10 @@ join-more (q ∷ ps) p = rw (join-more ps p, append-assoc)
 
 -- ---- the state that the joined text says
 
-held-back : (rest : List ℕ) → length rest ≤ 3 → take (length rest) (take 3 (rest ++ 0 ∷ 0 ∷ 0 ∷ [])) ≡ rest
+pub held-back : (rest : List ℕ) → length rest ≤ 3 → take (length rest) (take 3 (rest ++ 0 ∷ 0 ∷ 0 ∷ [])) ≡ rest
 held-back rest h = take-take (length rest) 3 (rest ++ 0 ∷ 0 ∷ 0 ∷ []) h ∙ take-at rest (0 ∷ 0 ∷ 0 ∷ []) (length rest) refl
 
-held-zeros : (rest : List ℕ) → length rest ≤ 3 → zeros (drop (length rest) (take 3 (rest ++ 0 ∷ 0 ∷ 0 ∷ []))) ≡ true
+pub held-zeros : (rest : List ℕ) → length rest ≤ 3 → zeros (drop (length rest) (take 3 (rest ++ 0 ∷ 0 ∷ 0 ∷ []))) ≡ true
 held-zeros [] h = refl
 held-zeros (a ∷ []) h = refl
 held-zeros (a ∷ b ∷ []) h = refl

@@ -8,3 +8,4 @@ pub mod Answering
 pub mod Finishing
 pub mod Calling
 pub mod Taking
+pub mod Keeping

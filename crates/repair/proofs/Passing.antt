@@ -32,9 +32,12 @@ pub written-small : (ss : List (Segment Kind)) → length (written (mend utf8) s
 written-small [] = omega arith
 written-small (s ∷ ss) = rw (length-append, mul-add) (omega (arith, mend-small s, written-small ss))
 
+pub parts-small : (text : List ℕ) → length (written (mend utf8) (parts bytes text .done)) ≤ 3 * length text
+parts-small text = omega (arith, written-small (parts bytes text .done), parts-size bytes text)
+
 pub need-small : (text : List ℕ) → need text ≤ 3 * length text
 unfolding need
-need-small text = omega (arith, written-small (parts bytes text .done), parts-size bytes text)
+need-small = parts-small
 
 -- where nothing is settled, nothing is needed
 pub need-none : (text : List ℕ) → total size (settled text) ≡ 0 → need text ≡ 0
