@@ -96,14 +96,14 @@ pub enum Placed {
 }
 
 // A segment is two units exactly if it has four bytes.
-fn units_of(size: usize) -> usize
+pub fn units_of(size: usize) -> usize
     ensures { λ r. ⌜ r ≡ unitsBySize size ⌝ }
 {
     if size == 4 { 2 } else { 1 }
 }
 
 // A line ends after each byte 0A.
-fn lines_of(head: u8) -> usize
+pub fn lines_of(head: u8) -> usize
     ensures { λ r. ⌜ r ≡ linesByHead head ⌝ }
 {
     if head == 0x0A { 1 } else { 0 }

@@ -1,0 +1,84 @@
+-- What a call answers, and what it leaves where it is granted and where it is refused.
+-- Assumes nothing.
+use mathlib.Core.Path.{_≡_, sym, ap}
+use Prim.Native.Nat.{ℕ, _+_, _≤_, _<_}
+use mathlib.Core.Bool.{true, false, true≢false}
+use mathlib.Core.List.{List, [], _∷_}
+use lib.ListN.{length, getD}
+use lib.Dec.{ltb, eqb}
+use borrow.Author.Tests.{ltb-false, lt-ltb, le-ltb}
+use Rattle.division.proofs.Cases.{split}
+use Rattle.terms.specs.Limits.{limit}
+use Rattle.terms.specs.Told.{refusal}
+use Rattle.terms.specs.declared.Refusal.{Refusal}
+use Rattle.terms.proofs.Telling.{no-zero}
+use Rattle.index.specs.Checkpoints.{needed}
+use Rattle.build.specs.Building.{freshBuilder, sound, buildSays, ended, Feeds, Finishes}
+use Rattle.build.specs.Steps.{Granted, grown}
+use Rattle.build.specs.declared.Builder.{Builder}
+use Rattle.build.specs.declared.Building.the-variants.{Done, Refused}
+
+-- ---- the checks in their order
+
+module _ (b : Builder) (more room : ℕ) where
+  pub says-unsound : sound b ≡ false → 8 ∷ [] ≡ buildSays b more room
+  says-unsound s = rw s
+
+  module _ (s : sound b ≡ true) where
+    pub says-over : limit < b .taken + more → 2 ∷ [] ≡ buildSays b more room
+    says-over o = rw (s, lt-ltb limit (b .taken + more) o)
+
+    pub says-short : b .taken + more ≤ limit → (n : ℕ) → n ≡ needed (b .taken + more) → room < n → 3 ∷ n ∷ [] ≡ buildSays b more room
+    says-short w n e h = rw (s, le-ltb limit (b .taken + more) w, ← e, lt-ltb room n h)
+
+    pub says-done : b .taken + more ≤ limit → needed (b .taken + more) ≤ room → 0 ∷ [] ≡ buildSays b more room
+    says-done w h = rw (s, le-ltb limit (b .taken + more) w, le-ltb room (needed (b .taken + more)) h)
+
+-- ---- a call that is granted has passed them all
+
+module _ (b : Builder) (more : ℕ) (row : List ℕ) where
+  pub says-granted : eqb (getD (buildSays b more (length row)) 0 0) 0 ≡ true → Granted b more row
+  says-granted g = split (sound b)
+      (λ s.
+      split (ltb limit (b .taken + more))
+      (λ o. absurd (true≢false (sym (rw (s, o) at g))))
+      (λ o.
+      split (ltb (length row) (needed (b .taken + more)))
+      (λ n. absurd (true≢false (sym (rw (s, o, n) at g))))
+      (λ n.
+      record {
+        tests = s;
+        within = ltb-false limit (b .taken + more) o;
+        room = ltb-false (length row) (needed (b .taken + more)) n;
+      })))
+      (λ s. absurd (true≢false (sym (rw s at g))))
+
+  pub done-granted : 0 ∷ [] ≡ buildSays b more (length row) → Granted b more row
+  done-granted e = says-granted (ap (λ (l : List ℕ). eqb (getD l 0 0) 0) (sym e))
+
+  pub granted-says : Granted b more row → buildSays b more (length row) ≡ 0 ∷ []
+  granted-says g = sym (says-done b more (length row) (g .tests) (g .within) (g .room))
+
+-- ---- feed and finish
+
+module _ (b : Builder) (piece row : List ℕ) where
+  pub feed-done : Granted b (length piece) row → (row′ : List ℕ) (r : Builder) → grown b piece row row′ r
+      → Feeds b piece row row′ (record { answer = Done; state = r })
+  feed-done g row′ r h =
+      let e = granted-says b (length piece) row g in
+      record { answer = sym e; state = rw e (h .state); checkpoints = rw e (h .checkpoints) }
+
+  pub feed-refused : (why : Refusal) → refusal why ≡ buildSays b (length piece) (length row)
+      → Feeds b piece row row (record { answer = Refused why; state = b })
+  feed-refused why e = record { answer = e; state = rw (← e, no-zero why); checkpoints = rw (← e, no-zero why) }
+
+module _ (b : Builder) (row : List ℕ) where
+  pub finish-done : Granted b 0 row → (row′ : List ℕ) (r : Builder) → row′ ≡ ended b row .row → r ≡ freshBuilder
+      → Finishes b row row′ (record { answer = Done; state = r })
+  finish-done g row′ r h f =
+      let e = granted-says b 0 row g in
+      record { answer = sym e; state = rw e f; checkpoints = rw e h }
+
+  pub finish-refused : (why : Refusal) → refusal why ≡ buildSays b 0 (length row)
+      → Finishes b row row (record { answer = Refused why; state = b })
+  finish-refused why e = record { answer = e; state = rw (← e, no-zero why); checkpoints = rw (← e, no-zero why) }
