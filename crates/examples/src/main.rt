@@ -1,5 +1,6 @@
 // Runs the fixed examples on the compiled library and prints what it finds: of each text its elements, its segments, what the
 // strict check tells in the numbers of the refusals (0 is well-formed), its repaired form, and the same in the other form.
+use build::Builder;
 use libc::STDOUT_FILENO;
 use place::Bytes;
 use place::Lines;
@@ -257,6 +258,37 @@ fn show_pieces() {
     show_list(&list);
 }
 
+// Builds the index of a text in two pieces.
+fn build_index(text: &[u8], row: &mut [u32]) {
+    let half = text.len() / 2;
+    let first = build::feed(Builder::fresh(), &text[..half], row);
+    let second = build::feed(first.state, &text[half..], row);
+    build::finish(second.state, row);
+}
+
+fn show_index() {
+    let mut text = [0x41u8; 257];
+    let mut row = [0u32; 8];
+    text[254] = 0xE2;
+    text[255] = 0x82;
+    text[256] = 0xAC;
+    build_index(&text, &mut row);
+    show_list(&row);
+    text[256] = 0x41;
+    build_index(&text, &mut row);
+    show_list(&row);
+}
+
+fn show_false_index() {
+    let text = [0x41u8; 300];
+    let mut row = [0u32; 8];
+    build_index(&text, &mut row);
+    row[5] = 200;
+    found(index::at_byte(&text, &row, Bytes(256)));
+    found(index::at_unit(&text, &row, Units(230)));
+    found(index::at_unit(&text, &row, Units(250)));
+}
+
 fn main() {
     show_bytes(b"");
     show_bytes(b"\xE2\x82\xAC");
@@ -275,4 +307,6 @@ fn main() {
     show_units(&[0xDE86, 0xD83D]);
     show_places(b"\x41\xE2\x82\xAC\xF0\x9F\x9A\x86\x80\x0A\x42");
     show_pieces();
+    show_index();
+    show_false_index();
 }
