@@ -6,13 +6,13 @@ use mathlib.Core.Bool.{false}
 use mathlib.Core.List.{List, [], _∷_}
 use lib.ListN.{length, getD}
 use lib.Dec.{ltb}
-use borrow.Author.Tests.{ne-eqb, le-ltb, ltb-false}
+use borrow.Author.Tests.{ne-eqb}
 use native.Mathlib.Omega.{arith}
 use Rattle.division.specs.Table.{Kind}
 use Rattle.division.specs.Tally.{Entry}
 use Rattle.division.proofs.Cases.{split}
 use Rattle.terms.specs.Limits.{limit}
-use Rattle.terms.specs.Strict.{damages, strictly, damaged, checkSays}
+use Rattle.terms.specs.Strict.{damages, checkSays}
 use Rattle.terms.specs.Told.{refusal}
 use Rattle.terms.specs.declared.Refusal.{Refusal}
 use Rattle.terms.proofs.Telling.{no-zero}

@@ -1,7 +1,7 @@
 -- Each turn that goes on has taken more, and the limit ends it.
 -- Assumes nothing.
 use Prim.Native.Nat.{suc, _-_}
-use mathlib.Core.Path.{_≡_, _∙_}
+use mathlib.Core.Path.{_≡_}
 use lib.ListN.{length}
 use native.Mathlib.Omega.{arith}
 use Rattle.terms.specs.Limits.{limit}

@@ -1,6 +1,5 @@
 -- A piece that was fed was not empty.
 -- Assumes nothing.
-use mathlib.Core.Path.{sym}
 use native.Mathlib.Omega.{arith}
 use Rattle.repair.proofs.Taking.{taken-is, granted}
 use borrow.Author.Needs.{needs}
