@@ -3,7 +3,7 @@
 use mathlib.Core.Path.{_≡_, refl, sym, ap, _∙_}
 use mathlib.Core.Logic.{_⊎_, inl, inr}
 use Prim.Native.Nat.{ℕ, zero, suc, _+_, _-_, _*_, _/_, _≤_, _<_}
-use native.Mathlib.Nat.{mul-zero, le-of-lt, le-trans, mul-div-le}
+use native.Mathlib.Nat.{mul-zero, mul-suc, le-of-lt, le-trans, mul-div-le}
 use mathlib.Core.Bool.{Bool, true, false, cond}
 use mathlib.Core.List.{List, foldl}
 use lib.ListN.{length}
@@ -11,13 +11,13 @@ use lib.Dec.{ltb, leb}
 use borrow.Author.Tests.{lt-ltb, le-ltb, ltb-true, ltb-false, leb-true, leb-false, le-leb}
 use native.Mathlib.Omega.{arith}
 use Rattle.division.specs.Reader.{Reader, cut}
-use Rattle.division.specs.Place.{Ruler, lookup, plain, mark}
+use Rattle.division.specs.Place.{Ruler, at, lookup, plain, mark}
 use Rattle.division.specs.Index.{marks, halve, resumed, from, byBytes, byHalving}
-use Rattle.division.proofs.Cases.{split}
+use Rattle.division.proofs.Cases.{split, under}
 use Rattle.division.proofs.Dividing.{Division, cut-size}
-use Rattle.division.proofs.Rows.{div-in}
-use Rattle.division.proofs.Placing.{NeverFalls, Rises, Before, before-mono, before-rise, lookup-from, lookup-past}
-use Rattle.division.proofs.Placing.{Measured, bytes-rise, bytes-mono, bytes-foldl, PlaceOf, place-behind}
+use Rattle.division.proofs.Rows.{div-in, div-out}
+use Rattle.division.proofs.Placing.{NeverFalls, Rises, Before, before-mono, before-rise, lookup-from, lookup-past, found-count, found-first}
+use Rattle.division.proofs.Placing.{Measured, bytes-rise, bytes-mono, bytes-foldl, PlaceOf, plain-place, place-in, place-behind}
 use Rattle.division.proofs.Placing.{mark-place, mark-le, mark-zero, mark-near}
 
 -- A TRUE INDEX of a text: checkpoint k is the last place at or before spacing × k
@@ -42,6 +42,20 @@ module _ (t : ℕ → Bool) where
       = halve-chosen f low ((low + high) / 2) (record { below = omega (arith, ltb-true); passes = c .passes }) in
       rw d (record { below = omega arith; passes = c′ .passes }))))
       (λ e. rw e c)
+
+  -- the number behind it is the end, or fails the test
+  pub halve-next : (f low high : ℕ) → low < high → high - low ≤ suc f
+      → (suc (halve f t low high) ≡ high) ⊎ (t (suc (halve f t low high)) ≡ false)
+  halve-next zero low high l h = inl (omega arith)
+  halve-next (suc f) low high l h = split (ltb 1 (high - low))
+      (λ e. rw e (split (t ((low + high) / 2))
+      (λ d. rw d (halve-next f ((low + high) / 2) high (omega (arith, ltb-true)) (omega (arith, ltb-true))))
+      (λ d. rw d (met ((low + high) / 2) d (halve-next f low ((low + high) / 2) (omega (arith, ltb-true)) (omega (arith, ltb-true)))))))
+      (λ e. rw e (inl (omega (arith, ltb-false))))
+    where
+      met : {k high : ℕ} (mid : ℕ) → t mid ≡ false → (k ≡ mid) ⊎ (t k ≡ false) → (k ≡ high) ⊎ (t k ≡ false)
+      met mid d (inl e) = inr (rw e d)
+      met mid d (inr e) = inr e
 
   -- it stops where the two are next to each other, and else takes a turn
   pub halve-stop : (f low high : ℕ) → high - low ≤ 1 → halve f t low high ≡ low
@@ -178,3 +192,55 @@ module _ {K P : Type 0} {look : Reader K} (D : Division look) {R : Ruler K P} (M
     pub lines-true : (m : P → ℕ) → NeverFalls (R .step) m → m (R .zeroth) ≡ zero → (o : ℕ)
         → byHalving look R top spacing fair m ltb o ix xs ≡ plain look R m o xs
     lines-true m mono mz o = halving-true m ltb o mz (λ q b e. (le-of-lt (ltb-true (m q) o e), resumed-mono m o xs mono b (ltb-true (m q) o e)))
+
+-- ---- A LOOKUP IN A TRUE INDEX WALKS LESS THAN THE SPACING AND ONE SEGMENT, from the checkpoint chosen to the place found
+
+module _ {K P : Type 0} {look : Reader K} (D : Division look) {R : Ruler K P} (M : Measured R) (top spacing : ℕ) (wide : zero < spacing)
+    (tops : (x : ℕ) (xs : List ℕ) → look x xs .more < top) (xs : List ℕ) (ix : ℕ → P) (good : True look R spacing ix xs) where
+  -- the place is at or before the next checkpoint's number
+  near : (j : ℕ) (p : P) → spacing * j ≤ length xs → R .bytes p ≤ spacing * suc j → R .bytes p < R .bytes (ix j) + (spacing + top)
+  near j p h k = rw (good j h) (omega (arith, mark-near D M xs top tops (spacing * j) h, mul-suc spacing j))
+
+  -- by bytes
+  pub bytes-near : (o : ℕ) (p : P) → plain look R (R .bytes) o xs ≡ at p → R .bytes p < R .bytes (ix (o / spacing)) + (spacing + top)
+  bytes-near o p e =
+      let c : R .bytes p ≡ o = found-count (R .step) (R .bytes) o (R .zeroth) (cut look xs) p e in
+      let i : R .bytes p ≤ length xs = place-in look M xs (plain-place look R xs (R .bytes) o p e) in
+      let l : o < spacing * suc (o / spacing) = div-out spacing wide o (suc (o / spacing)) (omega arith) in
+      near (o / spacing) p (omega (arith, mul-div-le o spacing)) (omega arith)
+
+  -- by any measure, where a count that fails the test is the offset or more
+  pub halving-near : (m : P → ℕ) (less : ℕ → ℕ → Bool) (o : ℕ) → ((c : ℕ) → less c o ≡ false → o ≤ c) → (p : P) → plain look R m o xs ≡ at p
+      → let n : ℕ = marks spacing (length xs) in
+      R .bytes p < R .bytes (ix (halve n (λ k. less (m (ix k)) o) zero n)) + (spacing + top)
+  halving-near m less o fails p e =
+      let c : Chosen t n (halve n t zero n) = halve-chosen t n zero n (record { below = omega arith; passes = inl refl }) in
+      go (halve n t zero n) c (halve-next t n zero n (omega arith) (omega arith))
+    where
+      n : ℕ
+      n = marks spacing (length xs)
+
+      t : ℕ → Bool
+      t k = less (m (ix k)) o
+
+      -- no checkpoint is behind the last
+      ends : (j : ℕ) → suc j ≡ n → R .bytes p ≤ spacing * suc j
+      ends j z =
+          let i : R .bytes p ≤ length xs = place-in look M xs (plain-place look R xs m o p e) in
+          let l : length xs < spacing * n = div-out spacing wide (length xs) n (omega arith) in
+          rw z (omega arith)
+
+      -- the next one counts the offset or more
+      stops : (j : ℕ) → suc j < n → t (suc j) ≡ false → R .bytes p ≤ spacing * suc j
+      stops j b f =
+          let q : P = mark look R (spacing * suc j) xs in
+          let k : o ≤ m q = fails (m q) (rw (good (suc j) (div-in spacing (length xs) (suc j) b)) at f) in
+          le-trans
+          (found-first (R .step) m (R .bytes) (bytes-mono M) o p e (mark-place look R xs (spacing * suc j)) k)
+          (mark-le look M xs (spacing * suc j))
+
+      go : (j : ℕ) → Chosen t n j → (suc j ≡ n) ⊎ (t (suc j) ≡ false) → R .bytes p < R .bytes (ix j) + (spacing + top)
+      go j c (inl z) = near j p (div-in spacing (length xs) j (c .below)) (ends j z)
+      go j c (inr f) = near j p (div-in spacing (length xs) j (c .below)) (under (suc j) n
+          (λ b. stops j b f)
+          (λ b. ends j (omega (arith, c .below))))

@@ -141,6 +141,18 @@ module _ {K P : Type 0} (step : P → Segment K → P) where
         (λ e. boundary-cons s (found-boundary o (step p s) ss q (rw e at h)))
         (λ e. rw (← here-at o p q (rw e at h) .0) (start-boundary p (s ∷ ss)))
 
+    -- IT IS THE FIRST: no boundary that counts the offset or more is in front of it, by any measure that never falls
+    pub found-first : (n : P → ℕ) → NeverFalls step n → (o : ℕ) {p r : P} {ss : List (Segment K)} (q : P) → lookup step m o p ss ≡ at q
+        → Boundary step p ss r → o ≤ m r → n q ≤ n r
+    found-first n mono o {p} q h b k = rw (b .place) (go p (b .front) (b .behind) (rw (b .joined) at h) (rw (b .place) at k))
+      where
+        go : (p : P) (hs bs : List (Segment K)) → lookup step m o p (hs ++ bs) ≡ at q → o ≤ m (foldl step p hs) → n q ≤ n (foldl step p hs)
+        go p [] [] h k = rw (here-at o p q (rw (le-ltb (m p) o k) at h) .0) (le-refl (n q))
+        go p [] (s ∷ bs) h k = rw (here-at o p q (rw (le-ltb (m p) o k) at h) .0) (le-refl (n q))
+        go p (s ∷ hs) bs h k = split (ltb (m p) o)
+            (λ e. go (step p s) hs bs (rw e at h) k)
+            (λ e. rw (← here-at o p q (rw e at h) .0) (climb n mono p (s ∷ hs)))
+
     -- a greater offset is found further on
     pub found-later : (o o′ : ℕ) → o < o′ → (p : P) (ss : List (Segment K)) (q r : P)
         → lookup step m o p ss ≡ at q → lookup step m o′ p ss ≡ at r → Later step q r

@@ -47,7 +47,7 @@ module _ (row text : List ℕ) (e : Indexes row text) where
   room : needed (length text) ≤ length row
   room = omega (arith, length-take (needed (length text)) row, ap length e, long)
 
-  good : True bytes ruler spacing (checkpoint row) text
+  pub good : True bytes ruler spacing (checkpoint row) text
   good = row-true measured counts 4 spacing (omega arith) (λ p. refl) placeOf (λ p. refl) bytes row text e
 
   fine : length text ≤ limit → (most : ℕ) → fair (mark bytes ruler most text) ≡ true
