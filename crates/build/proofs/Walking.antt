@@ -12,7 +12,6 @@ use Rattle.division.specs.Tally.{total, size}
 use Rattle.division.specs.Table.{Kind}
 use Rattle.division.specs.Index.{Built, add}
 use Rattle.division.proofs.Dividing.{first-size}
-use Rattle.utf8.specs.Bytes.{bytes}
 use Rattle.utf8.proofs.Rows.{bytes-division, bytes-top}
 use Rattle.pending.specs.Tail.{settled}
 use Rattle.pending.proofs.Settling.{settled-parts, settled-inside, settled-none, settled-some}

@@ -9,3 +9,4 @@ pub mod Finishing
 pub mod Calling
 pub mod Taking
 pub mod Keeping
+pub mod Telling
