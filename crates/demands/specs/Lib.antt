@@ -1,0 +1,4 @@
+pub mod Cuts
+pub mod Builds
+pub mod Lookups
+pub mod Cuttings
