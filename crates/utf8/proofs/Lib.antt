@@ -1,3 +1,5 @@
 pub mod Rows
 pub mod Following
 pub mod Scalars
+pub mod Running
+pub mod Fitting

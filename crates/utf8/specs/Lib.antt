@@ -2,3 +2,4 @@ pub mod Bytes
 pub mod Lead
 pub mod Scalar
 pub mod Pending
+pub mod Run

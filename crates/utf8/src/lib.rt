@@ -14,6 +14,7 @@ ghost use Rattle.terms.specs.Strict.{checkSays};
 ghost use Rattle.terms.specs.Form.{pointSays};
 ghost use Rattle.utf8.specs.Bytes.{rows, bytes};
 ghost use Rattle.utf8.specs.Lead.{ranges, wanted};
+ghost use Rattle.utf8.specs.Run.{wholeRun};
 ghost use Rattle.utf8.specs.Scalar.{number, utf8};
 
 // What a first byte tells: no sequence begins with it; or one does, and wants so many bytes more, the next from low to high
@@ -130,6 +131,14 @@ pub fn point(text: &[u8]) -> Point
     }
 }
 
+// How many bytes come before the first damage? All of them, where there is none.
+pub fn whole_run(text: &[u8]) -> usize
+    ensures { λ r. ⌜ r ≡ wholeRun (now (text .entry)) ⌝ }
+{
+    let n = lanes::standing(text);
+    n - lanes::waiting(text, n)
+}
+
 // Is a text well-formed? If not, its first damage is told.
 pub fn check(text: &[u8]) -> Checked
     ensures { λ r. ⌜ checked r ≡ checkSays bytes (now (text .entry)) ⌝ }
@@ -137,13 +146,10 @@ pub fn check(text: &[u8]) -> Checked
     if Decoder::LIMIT < text.len() {
         return Checked::Refused(Refusal::OverLimit);
     }
-    let mut at: usize = 0;
-    loop {
-        match segment(&text[at..]) {
-            First::Nothing => return Checked::WellFormed,
-            First::Whole(n) => at += n,
-            First::Damage(n) => return Checked::damaged(at, n),
-            First::Begun(n) => return Checked::damaged(at, n),
-        }
+    let start = whole_run(text);
+    if start == text.len() {
+        return Checked::WellFormed;
     }
+    let damage = segment(&text[start..]);
+    Checked::damaged(start, damage.size())
 }

@@ -1,130 +1,76 @@
--- `utf8::check` meets its contract: up to the place that the walk has come to there is no damage.
+-- `utf8::check` meets its contract: up to the end of the whole run there is no damage, and behind it there is, or no text.
 -- Assumes nothing.
-use Prim.Native.Nat.{_-_}
 use mathlib.Core.Path.{_∙_}
 use mathlib.Core.List.{[], _∷_}
-use lib.ListN.{length}
+use lib.ListN.{drop-of-length-le}
 use native.Mathlib.Omega.{arith}
 use borrow.Author.Needs.{needs}
-use Rattle.division.specs.Table.{whole}
 use Rattle.terms.specs.Strict.{damaged}
-use Rattle.terms.proofs.Walking.{Turn, turn-whole, turn-damage, turn-begun, turn-end}
-use Rattle.terms.proofs.Walking.{Clean, clean-start, clean-whole, check-over, check-end, check-damage}
+use Rattle.terms.proofs.Walking.{Clean, check-over, check-end, check-damage}
 use Rattle.utf8.specs.Bytes.{bytes}
-use Rattle.utf8.proofs.Rows.{bytes-division}
+use Rattle.utf8.proofs.Running.{run-clean, stop-turn}
+use Rattle.utf8.proofs.Fitting.{run-at, stops-at}
 use Rattle.utf8.proofs.check.Statement.{statement}
 use Rattle.utf8.proofs.check.Tie as tie
 
-abbrev Inv-loop : tie.InvT-loop
-Inv-loop text at₀ at = Clean bytes text at
-
-abbrev μ-loop : tie.MeasureT-loop
-μ-loop text at₀ at = length text - at
-
-returns : tie.Need-returns Inv-loop μ-loop
+returns : tie.Need-returns
 returns c = check-over (c .before .before .args .text .now) _ (c .if1 .taken)
 
-loop-holds : tie.Need-loop-holds Inv-loop μ-loop
-loop-holds c = clean-start bytes (c .before .before .args .text .now)
+whole-run-requires : tie.Need-whole-run-requires
+whole-run-requires c κs = search needs
 
-sub-segment : tie.Need-sub-segment Inv-loop μ-loop
-sub-segment c = search needs
+-- behind the whole run
+clean : (c : tie.After-whole-run) → Clean bytes (c .before .before .before .args .text .now) (c .whole-run .result)
+clean c =
+    let text = c .before .before .before .args .text .now in
+    run-clean text (c .whole-run .result) (run-at text (c .whole-run .result) (c .whole-run .ensures))
 
-part-segment-start : tie.Need-part-segment-start Inv-loop μ-loop
-part-segment-start c = search needs
+returns-2 : tie.Need-returns-2
+returns-2 c =
+    let w = c .before in
+    let text = w .before .before .before .args .text .now in
+    check-end text (w .whole-run .result) (clean w) damaged (0 ∷ []) (w .before .if1 .left) (drop-of-length-le text {i = w .whole-run .result} (omega (arith, c .if2 .taken)))
 
-part-segment-end : tie.Need-part-segment-end Inv-loop μ-loop
+sub-segment : tie.Need-sub-segment
+sub-segment c = omega (arith, clean (c .before) .inside)
+
+part-segment-start : tie.Need-part-segment-start
+part-segment-start c = omega (arith, clean (c .before) .inside)
+
+part-segment-end : tie.Need-part-segment-end
 part-segment-end c = search needs
 
-segment-requires : tie.Need-segment-requires Inv-loop μ-loop
+segment-requires : tie.Need-segment-requires
 segment-requires c κs = search needs
 
-enum-told : tie.Need-enum-told Inv-loop μ-loop
-enum-told c = search needs
+size-requires : tie.Need-size-requires
+size-requires c κs = search needs
 
-returns-2 : tie.Need-returns-2 Inv-loop μ-loop
-returns-2 c =
-    let g = c .before .before in
-    let l = g .before .before in
-    let text = l .before .before .before .args .text .now in
-    check-end text (l .loop .at) (l .loop .inv) damaged (0 ∷ []) (l .before .if1 .left)
-    (turn-end bytes-division text (l .loop .at) (l .loop .inv .inside) _ (g .segment .ensures) (c .enum-told .given .1))
-
-enum-known-n : tie.Need-enum-known-n Inv-loop μ-loop
-enum-known-n c = search needs
-
--- behind a whole segment
-turned : (c : tie.After-known-told Inv-loop μ-loop)
-    → let l = c .before .before .before .before .before in
-    Turn bytes (l .before .before .before .args .text .now) (l .loop .at) (c .before .n .given .0 .0) whole
-turned c =
-    let g = c .before .before .before in
-    let l = g .before .before in
-    turn-whole bytes-division (l .before .before .before .args .text .now) (l .loop .at) (l .loop .inv .inside) _
-    (g .segment .ensures) _ (c .before .n .given .1)
-
-add-at : tie.Need-add-at Inv-loop μ-loop
-add-at c = let t = turned c in omega (arith, t .inside)
-
-loop-less : tie.Need-loop-less Inv-loop μ-loop
-loop-less c = let t = turned c in omega (arith, t .some, t .inside)
-
-loop-again : tie.Need-loop-again Inv-loop μ-loop
-loop-again c =
-    let l = c .before .before .before .before .before in
-    clean-whole (l .before .before .before .args .text .now) (l .loop .at) (l .loop .inv) _ (turned c)
-
-enum-known-n-2 : tie.Need-enum-known-n-2 Inv-loop μ-loop
-enum-known-n-2 c = search needs
-
-damaged-requires : tie.Need-damaged-requires Inv-loop μ-loop
+damaged-requires : tie.Need-damaged-requires
 damaged-requires c κs = search needs
 
-returns-3 : tie.Need-returns-3 Inv-loop μ-loop
+returns-3 : tie.Need-returns-3
 returns-3 c =
-    let g = c .before .before .before .before in
-    let l = g .before .before in
-    let text = l .before .before .before .args .text .now in
+    let g = c .before .before in
+    let w = g .before .before .before in
+    let n = w .whole-run .result in
+    let text = w .before .before .before .args .text .now in
     c .damaged .ensures
-    ∙ check-damage text (l .loop .at) (l .loop .inv) damaged (0 ∷ []) (l .before .if1 .left) _
-    (turn-damage bytes-division text (l .loop .at) (l .loop .inv .inside) _ (g .segment .ensures) _ (c .before .before .n2 .given .1))
-
-enum-known-n-3 : tie.Need-enum-known-n-3 Inv-loop μ-loop
-enum-known-n-3 c = search needs
-
-damaged-requires-2 : tie.Need-damaged-requires-2 Inv-loop μ-loop
-damaged-requires-2 c κs = search needs
-
-returns-4 : tie.Need-returns-4 Inv-loop μ-loop
-returns-4 c =
-    let g = c .before .before .before .before in
-    let l = g .before .before in
-    let text = l .before .before .before .args .text .now in
-    c .damaged2 .ensures
-    ∙ check-damage text (l .loop .at) (l .loop .inv) damaged (0 ∷ []) (l .before .if1 .left) _
-    (turn-begun bytes-division text (l .loop .at) (l .loop .inv .inside) _ (g .segment .ensures) _ (c .before .before .n3 .given .1))
+    ∙ rw (c .before .size .ensures)
+    (check-damage text n (clean w) damaged (0 ∷ []) (w .before .if1 .left) _
+    (stop-turn text n (stops-at text n (w .whole-run .ensures)) (omega (arith, clean w .inside, g .before .before .if2 .left)) (g .segment .result) (g .segment .ensures)))
 
 pub check-spec : {M : Type 1} → statement M
 check-spec =
     tie.close
     (tie.spec
-    Inv-loop
-    μ-loop
     returns
-    loop-holds
+    whole-run-requires
+    returns-2
     sub-segment
     part-segment-start
     part-segment-end
     segment-requires
-    enum-told
-    returns-2
-    enum-known-n
-    add-at
-    loop-less
-    loop-again
-    enum-known-n-2
+    size-requires
     damaged-requires
-    returns-3
-    enum-known-n-3
-    damaged-requires-2
-    returns-4)
+    returns-3)

@@ -1,0 +1,89 @@
+-- `lanes::blocks` meets its contract: each block goes on where the text stood well so far.
+-- Assumes nothing.
+use borrow.Author.Needs.{needs}
+use Prim.Native.Nat.{_-_, _≤_}
+use native.Mathlib.Omega.{arith}
+use borrow.Author.Tests.{not-false}
+use lib.ListN.{length, length-take, length-drop}
+use Rattle.lanes.specs.Blocks.{Good}
+use Rattle.lanes.proofs.Joining.{good-part}
+use Rattle.lanes.proofs.blocks.Statement.{statement}
+use Rattle.lanes.proofs.blocks.Tie as tie
+
+abbrev Inv-loop : tie.InvT-loop
+Inv-loop text at₀ at = (3 ≤ at) × Good text at
+
+abbrev μ-loop : tie.MeasureT-loop
+μ-loop text at₀ at = length text - at
+
+loop-holds : tie.Need-loop-holds Inv-loop μ-loop
+loop-holds c = (omega arith, c .before .pre)
+
+sub-loop : tie.Need-sub-loop Inv-loop μ-loop
+sub-loop c = search needs
+
+sub-a : tie.Need-sub-a Inv-loop μ-loop
+sub-a c = search needs
+
+sub-t : tie.Need-sub-t Inv-loop μ-loop
+sub-t c = search needs
+
+part-t-start : tie.Need-part-t-start Inv-loop μ-loop
+part-t-start c = search needs
+
+part-t-end : tie.Need-part-t-end Inv-loop μ-loop
+part-t-end c = search needs
+
+right-requires : tie.Need-right-requires Inv-loop μ-loop
+right-requires c κs = simp (length-take, length-drop) (omega arith)
+
+right-to-requires : tie.Need-right-to-requires Inv-loop μ-loop
+right-to-requires c κs = simp (length-take, length-drop) (omega arith)
+
+add-result : tie.Need-add-result Inv-loop μ-loop
+add-result c = omega (arith, c .right-to .ensures .0)
+
+returns : tie.Need-returns Inv-loop μ-loop
+returns c =
+    let l = c .before .before .before .before .before in
+    good-part (l .before .before .args .text .now) (l .loop .at) (l .loop .at) (c .right-to .result) (l .loop .inv .1) (l .loop .inv .0) (omega arith)
+    (omega (arith, c .right-to .ensures .0)) (c .right-to .ensures .1)
+
+add-at : tie.Need-add-at Inv-loop μ-loop
+add-at c = search needs
+
+loop-less : tie.Need-loop-less Inv-loop μ-loop
+loop-less c = search needs
+
+loop-again : tie.Need-loop-again Inv-loop μ-loop
+loop-again c =
+    let l = c .before .before .before .before in
+    let n = l .loop .at in (
+      omega arith,
+      good-part (l .before .before .args .text .now) n n 128 (l .loop .inv .1) (l .loop .inv .0) (omega arith) (omega arith)
+          (c .before .right .ensures (not-false _ (c .if1 .left))),
+    )
+
+returns-2 : tie.Need-returns-2 Inv-loop μ-loop
+returns-2 c = c .before .loop .inv .1
+
+pub blocks-spec : {M : Type 1} → statement M
+blocks-spec =
+    tie.close
+    (tie.spec
+    Inv-loop
+    μ-loop
+    loop-holds
+    sub-loop
+    sub-a
+    sub-t
+    part-t-start
+    part-t-end
+    right-requires
+    right-to-requires
+    add-result
+    returns
+    add-at
+    loop-less
+    loop-again
+    returns-2)

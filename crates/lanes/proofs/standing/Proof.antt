@@ -1,0 +1,22 @@
+-- `lanes::standing` meets its contract: it goes on from the bound.
+-- Assumes nothing.
+use borrow.Author.Needs.{needs}
+use Rattle.lanes.proofs.standing.Statement.{statement}
+use Rattle.lanes.proofs.standing.Tie as tie
+
+long-requires : tie.Need-long-requires
+long-requires c κs = search needs
+
+onward-requires : tie.Need-onward-requires
+onward-requires c κs = search needs
+
+returns : tie.Need-returns
+returns c = search needs
+
+pub standing-spec : {M : Type 1} → statement M
+standing-spec =
+    tie.close
+    (tie.spec
+    long-requires
+    onward-requires
+    returns)

@@ -1,0 +1,466 @@
+// How many bytes at the start of a text stand well, a block at a time: each byte is tested with the three before it, by plain
+// arithmetic that a compiler turns into vector instructions.
+ghost use mathlib.Core.Path.{_≡_};
+ghost use mathlib.Core.Bool.{true, _&&_, _||_, cond};
+ghost use Prim.Native.Nat.{ℕ, suc, min, _-_, _<_, _≤_};
+ghost use lib.ListN.{length};
+ghost use lib.Dec.{leb, ltb};
+ghost use Rattle.lanes.specs.Stands.{later, lowOf, highOf, second, stands, standing, before, waitingAt};
+ghost use Rattle.lanes.specs.Blocks.{Stand, Below, Good};
+
+// x - c where x is larger, else 0.
+fn less(x: u8, c: u8) -> u8
+    ensures { λ r. ⌜ r ≡ x - c ⌝ }
+{
+    if c < x { x - c } else { 0 }
+}
+
+// All bits, or none.
+fn full(t: bool) -> u8
+    ensures { λ r. ⌜ r ≡ cond t 255 0 ⌝ }
+{
+    if t { 255 } else { 0 }
+}
+
+// Is b from low on, and below high?
+fn among(b: u8, low: u8, high: u8) -> bool
+    ensures { λ r. ⌜ r ≡ leb low b && ltb b high ⌝ }
+{
+    low <= b && b < high
+}
+
+// Below 0x80 only where b is a later byte exactly if must is 0x80 or more.
+fn asked(must: u8, b: u8) -> u8
+    ensures { λ r. ⌜ (r < 0x80 → later b ≡ leb 0x80 must) ⌝ }
+{
+    must ^ full(among(b, 0x80, 0xC0))
+}
+
+// Below 0x80 only where low is true if last is, and false if first is.
+fn edge(first: bool, last: bool, low: bool) -> u8
+    ensures { λ r. ⌜ (r < 0x80 → (first || last) && low ≡ last) ⌝ }
+{
+    ((full(first) | full(last)) & full(low)) ^ full(last)
+}
+
+// Below 0x80 only where b is neither 0xC0 nor 0xC1.
+fn overlong(b: u8) -> u8
+    ensures { λ r. ⌜ (r < 0x80 → 0xC0 ≤ b → 0xC2 ≤ b) ⌝ }
+{
+    full((b | 1) == 0xC1)
+}
+
+// Below 0x80 only where b0 stands well behind b1, for bytes below 0xE0.
+fn lane_two(b1: u8, b0: u8) -> u8
+    ensures { λ r. ⌜ (r < 0x80 → b1 < 0xE0 → (b3 b2 : ℕ) → b2 < 0xE0 → b3 < 0xE0 → stands b3 b2 b1 b0 ≡ true) ⌝ }
+{
+    asked(less(b1, 64), b0) | overlong(b1)
+}
+
+// The same behind b2 and b1, for bytes below 0xF0.
+fn lane_three(b2: u8, b1: u8, b0: u8) -> u8
+    ensures { λ r. ⌜ (r < 0x80 → b1 < 0xF0 → b2 < 0xF0 → (b3 : ℕ) → b3 < 0xF0 → stands b3 b2 b1 b0 ≡ true) ⌝ }
+{
+    asked(less(b1, 64) | less(b2, 96), b0)
+        | overlong(b1)
+        | edge(b1 == 0xE0, b1 == 0xED, among(b0, 0x80, 0xA0))
+}
+
+// The same behind b3, b2 and b1, for any bytes.
+fn lane_four(b3: u8, b2: u8, b1: u8, b0: u8) -> u8
+    ensures { λ r. ⌜ (r < 0x80 → stands b3 b2 b1 b0 ≡ true) ⌝ }
+{
+    asked(less(b1, 64) | less(b2, 96) | less(b3, 112), b0)
+        | overlong(b1)
+        | less(b1, 117)
+        | edge(b1 == 0xE0, b1 == 0xED, among(b0, 0x80, 0xA0))
+        | edge(b1 == 0xF0, b1 == 0xF4, among(b0, 0x80, 0x90))
+}
+
+fn larger(a: u8, b: u8) -> u8
+    ensures { λ r. ⌜ (a ≤ r) × (b ≤ r) ⌝ }
+{
+    if a < b { b } else { a }
+}
+
+// No byte of the first 131 is larger.
+fn top(t: &[u8]) -> u8
+    requires { ⌜ 131 ≤ length (now t) ⌝ }
+    ensures { λ r. ⌜ Below (now (t .entry)) 131 (suc r) ⌝ }
+{
+    let mut m: u8 = 0;
+    for k in 0..131 {
+        m = larger(m, t[k]);
+    }
+    m
+}
+
+// Does each of the 128 bytes behind the first three stand well? For bytes below 0xE0.
+fn right_two(t: &[u8]) -> bool
+    requires { ⌜ (131 ≤ length (now t)) × Below (now t) 131 0xE0 ⌝ }
+    ensures { λ r. ⌜ (r ≡ true → Stand (now (t .entry)) 128) ⌝ }
+{
+    let mut e: u8 = 0;
+    for k in 0..128 {
+        e |= lane_two(t[k + 2], t[k + 3]);
+    }
+    e < 0x80
+}
+
+// The same for bytes below 0xF0.
+fn right_three(t: &[u8]) -> bool
+    requires { ⌜ (131 ≤ length (now t)) × Below (now t) 131 0xF0 ⌝ }
+    ensures { λ r. ⌜ (r ≡ true → Stand (now (t .entry)) 128) ⌝ }
+{
+    let mut e: u8 = 0;
+    for k in 0..128 {
+        e |= lane_three(t[k + 1], t[k + 2], t[k + 3]);
+    }
+    e < 0x80
+}
+
+// The same for any bytes.
+fn right_four(t: &[u8]) -> bool
+    requires { ⌜ 131 ≤ length (now t) ⌝ }
+    ensures { λ r. ⌜ (r ≡ true → Stand (now (t .entry)) 128) ⌝ }
+{
+    let mut e: u8 = 0;
+    for k in 0..128 {
+        e |= lane_four(t[k], t[k + 1], t[k + 2], t[k + 3]);
+    }
+    e < 0x80
+}
+
+// The same, by the quickest of the three.
+fn right(t: &[u8]) -> bool
+    requires { ⌜ 131 ≤ length (now t) ⌝ }
+    ensures { λ r. ⌜ (r ≡ true → Stand (now (t .entry)) 128) ⌝ }
+{
+    let m = top(t);
+    if m < 0x80 {
+        return true;
+    }
+    if m < 0xE0 {
+        return right_two(t);
+    }
+    if m < 0xF0 {
+        return right_three(t);
+    }
+    right_four(t)
+}
+
+fn smaller(a: u8, b: u8) -> u8
+    ensures { λ r. ⌜ (r ≤ a) × (r ≤ b) ⌝ }
+{
+    if a < b { a } else { b }
+}
+
+// A place, where the test there is not below 0x80.
+fn place(e: u8, k: u8) -> u8
+    ensures { λ r. ⌜ (k < r → e < 0x80) ⌝ }
+{
+    if e < 0x80 { 255 } else { k }
+}
+
+// So many of the 128 bytes behind the first three stand well. There may be more.
+fn right_to(t: &[u8]) -> usize
+    requires { ⌜ 131 ≤ length (now t) ⌝ }
+    ensures { λ r. ⌜ (r ≤ 128) × Stand (now (t .entry)) r ⌝ }
+{
+    let mut m: u8 = 128;
+    for k in 0..128 {
+        let e = lane_four(t[k], t[k + 1], t[k + 2], t[k + 3]);
+        let at = (k % 256) as u8;
+        m = smaller(m, place(e, at));
+    }
+    m as usize
+}
+
+// Do the first three bytes of a text stand well?
+fn right_first(text: &[u8]) -> bool
+    requires { ⌜ 3 ≤ length (now text) ⌝ }
+    ensures { λ r. ⌜ (r ≡ true → Good (now (text .entry)) 3) ⌝ }
+{
+    let e = lane_four(0, 0, 0, text[0])
+        | lane_four(0, 0, text[0], text[1])
+        | lane_four(0, text[0], text[1], text[2]);
+    e < 0x80
+}
+
+// How far a text stands well, by whole blocks and in the block that does not.
+fn blocks(text: &[u8]) -> usize
+    requires { ⌜ Good (now text) 3 ⌝ }
+    ensures { λ r. ⌜ Good (now (text .entry)) r ⌝ }
+{
+    let mut at = 3;
+    while 128 <= text.len() - at {
+        let a = at - 3;
+        let t = &text[a..];
+        if !right(t) {
+            return at + right_to(t);
+        }
+        at += 128;
+    }
+    at
+}
+
+// Does each of the 32 bytes behind the first three stand well?
+fn right_narrow(t: &[u8]) -> bool
+    requires { ⌜ 35 ≤ length (now t) ⌝ }
+    ensures { λ r. ⌜ (r ≡ true → Stand (now (t .entry)) 32) ⌝ }
+{
+    let mut e: u8 = 0;
+    for k in 0..32 {
+        e |= lane_four(t[k], t[k + 1], t[k + 2], t[k + 3]);
+    }
+    e < 0x80
+}
+
+// So many of the m bytes behind the first three stand well, by one narrow block or two. There may be more.
+fn narrow(t: &[u8], m: usize) -> usize
+    requires { ⌜ (131 ≤ length (now t)) × (m ≤ 64) ⌝ }
+    ensures { λ r. ⌜ (r ≤ m) × Stand (now (t .entry)) r ⌝ }
+{
+    if !right_narrow(t) {
+        return 0;
+    }
+    if m <= 32 {
+        return m;
+    }
+    if !right_narrow(&t[32..]) {
+        return 32;
+    }
+    m
+}
+
+fn lower(a: usize, b: usize) -> usize
+    ensures { λ r. ⌜ r ≡ min a b ⌝ }
+{
+    if a < b { a } else { b }
+}
+
+// So many bytes at the start of a text stand well, by one block that starts with the text.
+fn first_block(text: &[u8]) -> usize
+    ensures { λ r. ⌜ Good (now (text .entry)) r ⌝ }
+{
+    let m = lower(text.len(), 128);
+    let mut b = [0u8; 131];
+    for k in 0..m {
+        b[k + 3] = text[k];
+    }
+    if m <= 64 {
+        return narrow(&b, m);
+    }
+    if right(&b) {
+        return m;
+    }
+    lower(right_to(&b), m)
+}
+
+// Are the first 64 bytes of a text all below 0x80?
+fn plain_wide(t: &[u8]) -> bool
+    requires { ⌜ 64 ≤ length (now t) ⌝ }
+    ensures { λ r. ⌜ (r ≡ true → Below (now (t .entry)) 64 0x80) ⌝ }
+{
+    let mut all: u8 = 0;
+    for k in 0..64 {
+        all |= t[k];
+    }
+    all < 0x80
+}
+
+// Are the first 16?
+fn plain_narrow(t: &[u8]) -> bool
+    requires { ⌜ 16 ≤ length (now t) ⌝ }
+    ensures { λ r. ⌜ (r ≡ true → Below (now (t .entry)) 16 0x80) ⌝ }
+{
+    let mut all: u8 = 0;
+    for k in 0..16 {
+        all |= t[k];
+    }
+    all < 0x80
+}
+
+// So many bytes at the start of a text are below 0x80, by wide blocks. There may be more.
+fn plain_start(text: &[u8]) -> usize
+    ensures { λ r. ⌜ (r ≤ length (now (text .entry))) × Below (now (text .entry)) r 0x80 ⌝ }
+{
+    let mut at = 0;
+    while 64 <= text.len() - at {
+        if !plain_wide(&text[at..]) {
+            return at;
+        }
+        at += 64;
+    }
+    at
+}
+
+// The same, by narrow blocks behind the wide ones.
+fn plain(text: &[u8]) -> usize
+    ensures { λ r. ⌜ (r ≤ length (now (text .entry))) × Below (now (text .entry)) r 0x80 ⌝ }
+{
+    let mut at = plain_start(text);
+    while 16 <= text.len() - at {
+        if !plain_narrow(&text[at..]) {
+            return at;
+        }
+        at += 16;
+    }
+    at
+}
+
+// The same for a text of 16 bytes or more, with a last block over what is left.
+fn plain_all(text: &[u8]) -> usize
+    requires { ⌜ 16 ≤ length (now text) ⌝ }
+    ensures { λ r. ⌜ (r ≤ length (now (text .entry))) × Below (now (text .entry)) r 0x80 ⌝ }
+{
+    let n = text.len();
+    let at = plain(text);
+    if n - at < 16 {
+        let a = n - 16;
+        if plain_narrow(&text[a..]) {
+            return n;
+        }
+    }
+    at
+}
+
+// So many bytes at the start of a text of fewer than 131 stand well. There may be more.
+fn short(text: &[u8]) -> usize
+    ensures { λ r. ⌜ Good (now (text .entry)) r ⌝ }
+{
+    if text.len() < 16 {
+        return 0;
+    }
+    let n = plain_all(text);
+    if text.len() - n < 16 {
+        return n;
+    }
+    first_block(text)
+}
+
+// The same for any text.
+fn long(text: &[u8]) -> usize
+    ensures { λ r. ⌜ Good (now (text .entry)) r ⌝ }
+{
+    let n = text.len();
+    if n < 131 {
+        return short(text);
+    }
+    if !right_first(text) {
+        return 0;
+    }
+    let e = blocks(text);
+    if n - e < 128 {
+        let a = n - 131;
+        if right(&text[a..]) {
+            return n;
+        }
+    }
+    e
+}
+
+fn low_of(b: u8) -> u8
+    ensures { λ r. ⌜ r ≡ lowOf b ⌝ }
+{
+    if b == 0xE0 {
+        return 0xA0;
+    }
+    if b == 0xF0 { 0x90 } else { 0x80 }
+}
+
+fn high_of(b: u8) -> u8
+    ensures { λ r. ⌜ r ≡ highOf b ⌝ }
+{
+    if b == 0xED {
+        return 0xA0;
+    }
+    if b == 0xF4 { 0x90 } else { 0xC0 }
+}
+
+// Does b1 begin a sequence, and may b0 be its second byte?
+fn seconds(b1: u8, b0: u8) -> bool
+    ensures { λ r. ⌜ r ≡ second b1 b0 ⌝ }
+{
+    if !among(b1, 0xC2, 0xF5) {
+        return false;
+    }
+    among(b0, low_of(b1), high_of(b1))
+}
+
+// Does b0 stand well behind b3, b2 and b1?
+fn stand(b3: u8, b2: u8, b1: u8, b0: u8) -> bool
+    ensures { λ r. ⌜ r ≡ stands b3 b2 b1 b0 ⌝ }
+{
+    if 0xC0 <= b1 {
+        return seconds(b1, b0);
+    }
+    let found = among(b0, 0x80, 0xC0);
+    if 0xE0 <= b2 {
+        return found;
+    }
+    if 0xF0 <= b3 {
+        return found;
+    }
+    !found
+}
+
+// The byte that stands k before a place, and 0 where there is none.
+fn byte_before(text: &[u8], at: usize, k: usize) -> u8
+    ensures { λ r. ⌜ r ≡ before (now (text .entry)) at k ⌝ }
+{
+    if at < k {
+        return 0;
+    }
+    let i = at - k;
+    if text.len() <= i {
+        return 0;
+    }
+    text[i]
+}
+
+// Goes on byte by byte from a place up to which a text stands well.
+fn onward(text: &[u8], from: usize) -> usize
+    requires { ⌜ Good (now text) from ⌝ }
+    ensures { λ r. ⌜ r ≡ standing (now (text .entry)) ⌝ }
+{
+    let mut b3 = byte_before(text, from, 3);
+    let mut b2 = byte_before(text, from, 2);
+    let mut b1 = byte_before(text, from, 1);
+    let mut at = from;
+    while at < text.len() {
+        let b0 = text[at];
+        if !stand(b3, b2, b1, b0) {
+            return at;
+        }
+        b3 = b2;
+        b2 = b1;
+        b1 = b0;
+        at += 1;
+    }
+    at
+}
+
+// How many bytes at the start of a text stand well, each behind the three before it?
+pub fn standing(text: &[u8]) -> usize
+    ensures { λ r. ⌜ r ≡ standing (now (text .entry)) ⌝ }
+{
+    let from = long(text);
+    onward(text, from)
+}
+
+// How many bytes before a place wait for more, where those before it stand well?
+pub fn waiting(text: &[u8], at: usize) -> usize
+    ensures { λ r. ⌜ r ≡ waitingAt (now (text .entry)) at ⌝ }
+{
+    if 0xC0 <= byte_before(text, at, 1) {
+        return 1;
+    }
+    if 0xE0 <= byte_before(text, at, 2) {
+        return 2;
+    }
+    if 0xF0 <= byte_before(text, at, 3) {
+        return 3;
+    }
+    0
+}
