@@ -1,12 +1,12 @@
-// Links the proved static library that `rt staticlib viewer` writes.
+// Links the proved static libraries that `rt staticlib` writes: the viewer's into the library, that of the wrappers into the test
+// that names it.
 use std::path::Path;
 
 fn main() {
     let folder = Path::new(env!("CARGO_MANIFEST_DIR")).join("../target/staticlib");
     println!("cargo:rustc-link-search=native={}", folder.display());
     println!("cargo:rustc-link-lib=static=viewer");
-    println!(
-        "cargo:rerun-if-changed={}",
-        folder.join("libviewer.a").display()
-    );
+    for archive in ["libviewer.a", "liboutside.a"] {
+        println!("cargo:rerun-if-changed={}", folder.join(archive).display());
+    }
 }

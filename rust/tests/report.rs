@@ -6,20 +6,37 @@ use moxandril::LIMIT;
 use std::io::Write;
 use std::process::{Command, Stdio};
 
+/// The program; where it is not compiled for this machine, under the emulator that is named.
 fn program() -> Command {
-    Command::new(concat!(env!("CARGO_MANIFEST_DIR"), "/../target/bin/report"))
+    let report = concat!(env!("CARGO_MANIFEST_DIR"), "/../target/bin/report");
+    match std::env::var("MOXANDRIL_EMULATOR") {
+        Ok(emulator) => {
+            let mut command = Command::new(emulator);
+            command.arg(report);
+            command
+        }
+        Err(_) => Command::new(report),
+    }
 }
 
 /// What the program prints of a text that comes in pieces, cut at these places.
 fn printed(text: &[u8], cuts: &[usize]) -> String {
-    let mut child = program().stdin(Stdio::piped()).stdout(Stdio::piped()).spawn().expect("the report runs");
+    let mut child = program()
+        .stdin(Stdio::piped())
+        .stdout(Stdio::piped())
+        .spawn()
+        .expect("the report runs");
     let mut pipe = child.stdin.take().unwrap();
     let (text, cuts) = (text.to_vec(), cuts.to_vec());
     let feeder = std::thread::spawn(move || {
         let mut from = 0;
         for to in cuts.into_iter().chain([text.len()]) {
             // the program may have ended already: over the limit it reads no further
-            if pipe.write_all(&text[from..to]).and_then(|()| pipe.flush()).is_err() {
+            if pipe
+                .write_all(&text[from..to])
+                .and_then(|()| pipe.flush())
+                .is_err()
+            {
                 return;
             }
             from = to;
@@ -37,8 +54,16 @@ fn expected(text: &[u8]) -> String {
     }
     let found = damages(text);
     let damaged: usize = found.iter().map(|d| d.1).sum();
-    let lines: String = found.iter().take(32).map(|(start, length)| format!("damage {start} {length}\n")).collect();
-    format!("{lines}total {} whole {} damaged {damaged}\n", found.len(), text.len() - damaged)
+    let lines: String = found
+        .iter()
+        .take(32)
+        .map(|(start, length)| format!("damage {start} {length}\n"))
+        .collect();
+    format!(
+        "{lines}total {} whole {} damaged {damaged}\n",
+        found.len(),
+        text.len() - damaged
+    )
 }
 
 fn compare(text: &[u8], cuts: &[usize]) {
@@ -47,10 +72,16 @@ fn compare(text: &[u8], cuts: &[usize]) {
 
 #[test]
 fn fixed_texts() {
-    assert_eq!(printed(b"\x41\x80\x42", &[]), "damage 1 1\ntotal 1 whole 2 damaged 1\n");
+    assert_eq!(
+        printed(b"\x41\x80\x42", &[]),
+        "damage 1 1\ntotal 1 whole 2 damaged 1\n"
+    );
     compare(b"", &[]);
     compare(b"\xE2\x82\x41", &[1, 2]);
-    compare(b"text that ends in the middle of a character \xF0\x9F\x9A", &[45, 46]);
+    compare(
+        b"text that ends in the middle of a character \xF0\x9F\x9A",
+        &[45, 46],
+    );
     compare(&[0x80; 33], &[7]);
     compare(&[0x80; 32], &[]);
 }
@@ -61,7 +92,9 @@ fn random_pieces() {
     for _ in 0..150 {
         let length = random.below(3_000);
         let text = random.text(length);
-        let mut cuts: Vec<usize> = (0..random.below(6)).map(|_| random.below(text.len() + 1)).collect();
+        let mut cuts: Vec<usize> = (0..random.below(6))
+            .map(|_| random.below(text.len() + 1))
+            .collect();
         cuts.sort();
         compare(&text, &cuts);
     }

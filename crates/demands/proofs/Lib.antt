@@ -3,3 +3,8 @@ pub mod Builds
 pub mod Building
 pub mod LookingUp
 pub mod Cutting
+pub mod Comparing
+pub mod Counting
+pub mod Joining
+pub mod Piecing
+pub mod Returning

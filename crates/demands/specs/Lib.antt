@@ -2,3 +2,7 @@ pub mod Cuts
 pub mod Builds
 pub mod Lookups
 pub mod Cuttings
+pub mod Equal
+pub mod Rounds
+pub mod Pieces
+pub mod Watching

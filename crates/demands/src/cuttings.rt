@@ -6,26 +6,9 @@ use place::Points;
 use place::Units;
 ghost use mathlib.Core.Path.{_≡_};
 ghost use mathlib.Core.Bool.{true};
-ghost use Rattle.index.specs.Looking.{same};
 ghost use Rattle.demands.specs.Cuttings.{FoundIn};
 
 // The same bytes.
-fn same(part: &[u8], other: &[u8]) -> bool
-    ensures { λ r. ⌜ r ≡ same (now (part .entry)) (now (other .entry)) ⌝ }
-{
-    if part.len() != other.len() {
-        return false;
-    }
-    let mut k: usize = 0;
-    while k < part.len() {
-        if part[k] != other[k] {
-            return false;
-        }
-        k += 1;
-    }
-    true
-}
-
 // Cut by the bytes, the units and the code points of the place that a lookup found, where there is one.
 fn cuts_at(text: &[u8], found: Placed) -> bool
     requires { ⌜ FoundIn (now text) found ⌝ }
@@ -35,9 +18,9 @@ fn cuts_at(text: &[u8], found: Placed) -> bool
         return true;
     };
     let n = p.bytes;
-    same(place::cut_bytes(text, Bytes(n)), &text[..n])
-        & same(place::cut_units(text, Units(p.units)), &text[..n])
-        & same(place::cut_points(text, Points(p.points)), &text[..n])
+    crate::same_bytes(place::cut_bytes(text, Bytes(n)), &text[..n])
+        & crate::same_bytes(place::cut_units(text, Units(p.units)), &text[..n])
+        & crate::same_bytes(place::cut_points(text, Points(p.points)), &text[..n])
 }
 
 // A text and an offset: the text is cut at the place that counts so many bytes, units, code points or lines.

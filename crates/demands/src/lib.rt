@@ -5,11 +5,15 @@ use terms::Decoder;
 ghost use mathlib.Core.Path.{_≡_};
 ghost use mathlib.Core.List.{[], _∷_};
 ghost use Rattle.demands.specs.Cuts.{bring};
+ghost use Rattle.demands.specs.Equal.{equal};
 ghost use Rattle.demands.specs.Builds.{isGranted, mayRefuse, builds, built, Builds};
 
 pub mod audits;
 pub mod cuttings;
 pub mod lookups;
+pub mod pieces;
+pub mod rounds;
+pub mod watching;
 
 // A cut position, any number, is brought between the previous one and the end.
 fn bring(cut: usize, from: usize, end: usize) -> usize
@@ -22,6 +26,55 @@ fn bring(cut: usize, from: usize, end: usize) -> usize
         return end;
     }
     cut
+}
+
+// Have they the same elements?
+fn same_bytes(bytes: &[u8], others: &[u8]) -> bool
+    ensures { λ r. ⌜ r ≡ equal (now (bytes .entry)) (now (others .entry)) ⌝ }
+{
+    if bytes.len() != others.len() {
+        return false;
+    }
+    let mut i = 0;
+    while i < bytes.len() {
+        if bytes[i] != others[i] {
+            return false;
+        }
+        i += 1;
+    }
+    true
+}
+
+fn same_units(units: &[u16], others: &[u16]) -> bool
+    ensures { λ r. ⌜ r ≡ equal (now (units .entry)) (now (others .entry)) ⌝ }
+{
+    if units.len() != others.len() {
+        return false;
+    }
+    let mut i = 0;
+    while i < units.len() {
+        if units[i] != others[i] {
+            return false;
+        }
+        i += 1;
+    }
+    true
+}
+
+fn same_codes(codes: &[u32], others: &[u32]) -> bool
+    ensures { λ r. ⌜ r ≡ equal (now (codes .entry)) (now (others .entry)) ⌝ }
+{
+    if codes.len() != others.len() {
+        return false;
+    }
+    let mut i = 0;
+    while i < codes.len() {
+        if codes[i] != others[i] {
+            return false;
+        }
+        i += 1;
+    }
+    true
 }
 
 // ---- an index that is built in pieces

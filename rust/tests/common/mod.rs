@@ -1,6 +1,9 @@
 //! An independent segment reader, from the sentence of the Unicode Standard, and texts to try it on.
 #![allow(dead_code)] // each test file uses its part
 
+pub mod model;
+pub mod texts;
+
 /// The well-formed sequences: a range for each byte.
 const ROWS: [&[(u8, u8)]; 9] = [
     &[(0x00, 0x7F)],
@@ -31,6 +34,12 @@ pub fn segment(text: &[u8]) -> (usize, bool) {
     }
     let longest = ROWS.iter().map(|row| agreeing(row, text)).max().unwrap();
     (longest.max(1), false)
+}
+
+/// Is it a beginning of some well-formed sequence, and not the whole of one?
+pub fn is_beginning(text: &[u8]) -> bool {
+    ROWS.iter()
+        .any(|row| text.len() < row.len() && agreeing(row, text) == text.len())
 }
 
 /// The damages of a text: start and length of each.

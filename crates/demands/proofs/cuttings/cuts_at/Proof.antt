@@ -23,29 +23,29 @@ cut-bytes-requires c κs = search needs
 place : (c : tie.After-known-told) → let f = c .before in IsPlace (f .before .before .before .args .text .now) (f .found .given .0 .0)
 place c = let f = c .before in f .before .before .before .pre (f .found .given .0 .0) (f .found .given .1)
 
-slice-aggregate-same : tie.Need-slice-aggregate-same
-slice-aggregate-same c = place-long _ _ (place (c .before .before))
+slice-aggregate-same-bytes : tie.Need-slice-aggregate-same-bytes
+slice-aggregate-same-bytes c = place-long _ _ (place (c .before .before))
 
-same-requires : tie.Need-same-requires
-same-requires c κs = search needs
+same-bytes-requires : tie.Need-same-bytes-requires
+same-bytes-requires c κs = search needs
 
 cut-units-requires : tie.Need-cut-units-requires
 cut-units-requires c κs = search needs
 
-slice-aggregate-same-2 : tie.Need-slice-aggregate-same-2
-slice-aggregate-same-2 c = place-long _ _ (place (c .before .before .before .before .before))
+slice-aggregate-same-bytes-2 : tie.Need-slice-aggregate-same-bytes-2
+slice-aggregate-same-bytes-2 c = place-long _ _ (place (c .before .before .before .before .before))
 
-same-requires-2 : tie.Need-same-requires-2
-same-requires-2 c κs = search needs
+same-bytes-requires-2 : tie.Need-same-bytes-requires-2
+same-bytes-requires-2 c κs = search needs
 
 cut-points-requires : tie.Need-cut-points-requires
 cut-points-requires c κs = search needs
 
-slice-aggregate-same-3 : tie.Need-slice-aggregate-same-3
-slice-aggregate-same-3 c = place-long _ _ (place (c .before .before .before .before .before .before .before .before))
+slice-aggregate-same-bytes-3 : tie.Need-slice-aggregate-same-bytes-3
+slice-aggregate-same-bytes-3 c = place-long _ _ (place (c .before .before .before .before .before .before .before .before))
 
-same-requires-3 : tie.Need-same-requires-3
-same-requires-3 c κs = search needs
+same-bytes-requires-3 : tie.Need-same-bytes-requires-3
+same-bytes-requires-3 c κs = search needs
 
 returns-2 : tie.Need-returns-2
 returns-2 c =
@@ -53,9 +53,9 @@ returns-2 c =
     let s₁ = s₂ .before .before .before in
     let p = place (s₁ .before .before .before) in
     rw (
-      same-cut _ _ p (λ q. q .bytes) bytes-rise (s₁ .before .before .cut-bytes .ensures) (s₁ .same .ensures),
-      same-cut _ _ p (λ q. q .units) units-rise (s₂ .before .before .cut-units .ensures) (s₂ .same2 .ensures),
-      same-cut _ _ p (λ q. q .points) points-rise (c .before .before .cut-points .ensures) (c .same3 .ensures),
+      same-cut _ _ p (λ q. q .bytes) bytes-rise (s₁ .before .before .cut-bytes .ensures) (s₁ .same-bytes .ensures),
+      same-cut _ _ p (λ q. q .units) units-rise (s₂ .before .before .cut-units .ensures) (s₂ .same-bytes2 .ensures),
+      same-cut _ _ p (λ q. q .points) points-rise (c .before .before .cut-points .ensures) (c .same-bytes3 .ensures),
     )
 
 pub cuts-at-spec : {M : Type 1} → statement M
@@ -66,12 +66,12 @@ cuts-at-spec =
     enum-told
     returns
     cut-bytes-requires
-    slice-aggregate-same
-    same-requires
+    slice-aggregate-same-bytes
+    same-bytes-requires
     cut-units-requires
-    slice-aggregate-same-2
-    same-requires-2
+    slice-aggregate-same-bytes-2
+    same-bytes-requires-2
     cut-points-requires
-    slice-aggregate-same-3
-    same-requires-3
+    slice-aggregate-same-bytes-3
+    same-bytes-requires-3
     returns-2)

@@ -1,0 +1,69 @@
+//! The library's calls that are measured, through the wrappers of the crate `outside`.
+
+#[rustfmt::skip]
+extern "C" {
+    fn outside_utf8_check(text: *const u8, n: usize, says: *mut usize, m: usize) -> usize;
+    fn outside_bytes_repair(text: *const u8, n: usize, out: *mut u8, k: usize, says: *mut usize, m: usize) -> usize;
+    fn outside_bytes_to_units(text: *const u8, n: usize, out: *mut u16, k: usize, says: *mut usize, m: usize) -> usize;
+    fn outside_bytes_repair_to_units(text: *const u8, n: usize, out: *mut u16, k: usize, says: *mut usize, m: usize) -> usize;
+    fn outside_units_to_bytes(text: *const u16, n: usize, out: *mut u8, k: usize, says: *mut usize, m: usize) -> usize;
+    fn outside_units_repair_to_bytes(text: *const u16, n: usize, out: *mut u8, k: usize, says: *mut usize, m: usize) -> usize;
+    fn outside_build_feed(state: *mut usize, k: usize, piece: *const u8, n: usize, row: *mut u32, r: usize, says: *mut usize, m: usize) -> usize;
+    fn outside_build_finish(state: *mut usize, k: usize, row: *mut u32, r: usize, says: *mut usize, m: usize) -> usize;
+    fn outside_plain_unit(text: *const u8, n: usize, offset: usize, says: *mut usize, m: usize) -> usize;
+    fn outside_index_unit(text: *const u8, n: usize, row: *const u32, k: usize, offset: usize, says: *mut usize, m: usize) -> usize;
+}
+
+/// What a call told: the refusal's number and values, or 0 and what was granted.
+pub type Said = [usize; 8];
+
+fn said(call: impl FnOnce(*mut usize, usize) -> usize) -> Said {
+    let mut says = [0; 8];
+    call(says.as_mut_ptr(), says.len());
+    says
+}
+
+// SAFETY of all calls: each reads and writes the slices that it is lent alone, and has no other precondition.
+
+pub fn check(text: &[u8]) -> Said {
+    said(|s, m| unsafe { outside_utf8_check(text.as_ptr(), text.len(), s, m) })
+}
+
+macro_rules! writers {
+    ($($name:ident: $call:ident, $from:ty => $to:ty;)*) => {$(
+        pub fn $name(text: &[$from], out: &mut [$to]) -> Said {
+            let (o, k) = (out.as_mut_ptr(), out.len());
+            said(|s, m| unsafe { $call(text.as_ptr(), text.len(), o, k, s, m) })
+        }
+    )*};
+}
+
+writers! {
+    repair: outside_bytes_repair, u8 => u8;
+    to_units: outside_bytes_to_units, u8 => u16;
+    repair_to_units: outside_bytes_repair_to_units, u8 => u16;
+    to_bytes: outside_units_to_bytes, u16 => u8;
+    repair_to_bytes: outside_units_repair_to_bytes, u16 => u8;
+}
+
+/// How many numbers the index of a text of so many bytes has.
+pub fn index_size(length: usize) -> usize {
+    4 * (length / 256 + 1)
+}
+
+/// Builds the index of a text: one feed and the finish.
+pub fn build(text: &[u8], row: &mut [u32]) -> Said {
+    let (mut state, r, k) = ([0usize; 8], row.as_mut_ptr(), row.len());
+    let p = state.as_mut_ptr();
+    said(|s, m| unsafe { outside_build_feed(p, 8, text.as_ptr(), text.len(), r, k, s, m) });
+    said(|s, m| unsafe { outside_build_finish(p, 8, r, k, s, m) })
+}
+
+pub fn plain_unit(text: &[u8], offset: usize) -> Said {
+    said(|s, m| unsafe { outside_plain_unit(text.as_ptr(), text.len(), offset, s, m) })
+}
+
+pub fn index_unit(text: &[u8], row: &[u32], offset: usize) -> Said {
+    let (r, k) = (row.as_ptr(), row.len());
+    said(|s, m| unsafe { outside_index_unit(text.as_ptr(), text.len(), r, k, offset, s, m) })
+}

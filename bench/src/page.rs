@@ -1,0 +1,113 @@
+//! docs/BENCHMARK.md: the tables of one run, and how it was measured.
+use crate::goals::least;
+use crate::growth::PerByte;
+use crate::jobs::{Job, Row, JOBS};
+use crate::measure::SAMPLES;
+
+pub struct Findings {
+    pub machine: String,
+    pub pinned: bool,
+    pub rows: Vec<Row>,
+    pub growth: Vec<PerByte>,
+    pub lookups: [f64; 2],
+    pub stack: Option<Vec<(&'static str, usize)>>,
+}
+
+const METHOD: &str = "\
+Each case runs ours and the peer's in turn in one process, and the median is taken of each. A ratio is the peer's time divided \
+by ours: above 1 ours is faster. Texts are made by the program from fixed seeds. Before it is timed, each case is compared: both \
+sides must agree.
+
+- Ours is called through the wrappers of the crate `outside`, which add a call and a few numbers told.
+- Output buffers are made and touched once before the timing, and are not cleared between runs; the same holds for peers that write \
+into a ready buffer (encoding_rs, and std's conversions here).
+- `String::from_utf8_lossy` allocates: it is asked for an owned string, as on clean text it would only lend the input. No other peer \
+allocates in the timed part. Ours allocates nothing.
+- simdutf8 (basic) and bytecount choose AVX2 at run time where the processor has it. encoding_rs, as Debian has it, is built \
+without its SIMD feature and reads words. std's check reads words. \
+Ours is compiled for plain x86-64 (SSE2).
+- bytecount counts code points alone, while the builder counts three measures and writes checkpoints. The plain loop is Rust's \
+`utf8_chunks` and `chars`, counting units, code points and lines.
+- Ours and std's check stop at the first damage, so that their ratio on damaged text is that of a short text. simdutf8 (basic) reads \
+on to the end, and is compared on clean texts alone.
+";
+
+fn length(bytes: usize) -> String {
+    match bytes {
+        n if n >= 1 << 19 => "1 MiB".into(),
+        n => format!("{n} bytes"),
+    }
+}
+
+fn goal(row: &Row) -> String {
+    least(row).map_or("".into(), |least| {
+        let mark = if row.ratio() >= least {
+            "reached"
+        } else {
+            "**not reached**"
+        };
+        format!("{least} {mark}")
+    })
+}
+
+/// The table of a job against a peer.
+fn table(rows: &[&Row]) -> String {
+    let mut page = String::from("| text | length | ours, GB/s | peer, GB/s | ratio | at least |\n");
+    page += "|---|---|---|---|---|---|\n";
+    for row in rows {
+        let (ours, peer) = row.speeds();
+        let (kind, long, ratio, goal) = (row.kind, length(row.bytes), row.ratio(), goal(row));
+        page += &format!("| {kind} | {long} | {ours:.3} | {peer:.3} | {ratio:.2} | {goal} |\n");
+    }
+    page
+}
+
+fn tables(rows: &[Row]) -> String {
+    let mut page = String::new();
+    for title in JOBS.map(Job::title) {
+        let of_job: Vec<&Row> = rows.iter().filter(|r| r.job.title() == title).collect();
+        page += &format!("\n### {title}\n\n{}", table(&of_job));
+    }
+    page
+}
+
+fn growth(found: &Findings) -> String {
+    let mut page = String::from("| call | 64 KiB | 1 MiB | 16 MiB |\n|---|---|---|---|\n");
+    for PerByte {
+        job,
+        nanoseconds: [a, b, c],
+    } in &found.growth
+    {
+        page += &format!("| {job}, ns a byte | {a:.3} | {b:.3} | {c:.3} |\n");
+    }
+    let [short, long] = found.lookups;
+    page + &format!("| indexed lookup, ns | {short:.0} | | {long:.0} |\n")
+}
+
+fn memory(found: &Findings) -> String {
+    let Some(stack) = &found.stack else {
+        return "The stack could not be measured in this run.\n".into();
+    };
+    let mut page = String::from("| call | bytes of stack at most, with its wrapper (512 is the least that is told apart) |\n|---|---|\n");
+    for (call, bytes) in stack {
+        page += &format!("| {call} | {bytes} |\n");
+    }
+    page
+}
+
+pub fn page(found: &Findings) -> String {
+    let pinned = if found.pinned {
+        "pinned to one processor"
+    } else {
+        "not pinned"
+    };
+    format!(
+        "# Benchmark\n\nWritten by `tools/bench` on {}; {pinned}, median of {SAMPLES}.\n\n{METHOD}\n\
+         ![ratios at 1 MiB](benchmark.svg)\n\n## Ratios\n{}\n## Growth\n\n{}\n## Memory\n\n\
+         The library has no heap: it is handed all that it writes to. Its stack, on a damaged text of 1 MiB:\n\n{}",
+        found.machine,
+        tables(&found.rows),
+        growth(found),
+        memory(found)
+    )
+}

@@ -1,0 +1,80 @@
+//! The peers: what each does with a text, into a ready buffer where it can.
+use encoding_rs::{mem, UTF_8};
+
+/// Repair by encoding_rs: how many bytes it wrote.
+pub fn encoding_repair(text: &[u8], out: &mut [u8]) -> usize {
+    let mut decoder = UTF_8.new_decoder_without_bom_handling();
+    let (_, _, written, _) = decoder.decode_to_utf8(text, out, true);
+    written
+}
+
+/// Repair into units by encoding_rs; its output wants one place more than the text has bytes.
+pub fn encoding_to_units(text: &[u8], out: &mut [u16]) -> usize {
+    mem::convert_utf8_to_utf16(text, out)
+}
+
+/// Repair into bytes by encoding_rs; its output wants three places for each unit.
+pub fn encoding_to_bytes(text: &[u16], out: &mut [u8]) -> usize {
+    mem::convert_utf16_to_utf8(text, out)
+}
+
+/// Strict conversion by std.
+pub fn std_to_units(text: &[u8], out: &mut [u16]) -> usize {
+    let Ok(text) = std::str::from_utf8(text) else {
+        return 0;
+    };
+    let mut n = 0;
+    for (place, unit) in out.iter_mut().zip(text.encode_utf16()) {
+        *place = unit;
+        n += 1;
+    }
+    n
+}
+
+/// Strict conversion by std, as far as the units are well-formed.
+pub fn std_to_bytes(text: &[u16], out: &mut [u8]) -> usize {
+    let mut n = 0;
+    for c in char::decode_utf16(text.iter().copied()).map_while(Result::ok) {
+        n += c.encode_utf8(&mut out[n..]).len();
+    }
+    n
+}
+
+/// A plain loop over characters and damages: units, code points and lines of the whole text.
+pub fn count(text: &[u8]) -> [usize; 3] {
+    let [mut units, mut points, mut lines] = [0; 3];
+    for chunk in text.utf8_chunks() {
+        for c in chunk.valid().chars() {
+            units += c.len_utf16();
+            points += 1;
+            lines += (c == '\n') as usize;
+        }
+        if !chunk.invalid().is_empty() {
+            units += 1;
+            points += 1;
+        }
+    }
+    [units, points, lines]
+}
+
+/// A plain loop to a unit: the byte at which it stands, if it is a boundary.
+pub fn byte_of_unit(text: &[u8], offset: usize) -> Option<usize> {
+    let (mut bytes, mut units) = (0, 0);
+    for chunk in text.utf8_chunks() {
+        for c in chunk.valid().chars() {
+            if units >= offset {
+                return (units == offset).then_some(bytes);
+            }
+            bytes += c.len_utf8();
+            units += c.len_utf16();
+        }
+        if !chunk.invalid().is_empty() {
+            if units >= offset {
+                return (units == offset).then_some(bytes);
+            }
+            bytes += chunk.invalid().len();
+            units += 1;
+        }
+    }
+    (units == offset).then_some(bytes)
+}

@@ -1,0 +1,26 @@
+-- What stands first is told.
+-- Assumes nothing.
+use mathlib.Core.Path.{_∙_}
+use Rattle.outside.proofs.Wrapping.{as-said}
+use borrow.Author.Needs.{needs}
+use Rattle.outside.proofs.reading.outside_points_segment.Statement.{statement}
+use Rattle.outside.proofs.reading.outside_points_segment.Tie as tie
+
+segment-requires : tie.Need-segment-requires
+segment-requires c κs = search needs
+
+say-first-requires : tie.Need-say-first-requires
+say-first-requires c κs = search needs
+
+tell-requires : tie.Need-tell-requires
+tell-requires c κs = search needs
+
+same-length : tie.Need-same-length
+same-length c = search needs
+
+returns : tie.Need-returns
+returns c = as-said (c .before .before .before .before .say-first .ensures .numbers ∙ c .before .before .before .before .before .segment .ensures) (c .before .before .tell .ensures)
+
+pub outside-points-segment-spec : {M : Type 1} → statement M
+outside-points-segment-spec =
+    tie.close (tie.spec segment-requires say-first-requires tell-requires same-length returns)

@@ -1,0 +1,113 @@
+//! Texts around the edges of blocks: lengths and damage at 0 to 4 from multiples of 128.
+use crate::common::Random;
+use crate::conversions;
+use crate::pieces::{build_course, repair_course, Course};
+use crate::Run;
+
+const BLOCK: usize = 128;
+
+/// The places at 0 to 4 from the first multiples of the block.
+fn near_edges(multiples: usize) -> Vec<usize> {
+    let around = |k: usize| (BLOCK * k - 4)..=(BLOCK * k + 4);
+    (0..=4).chain((1..=multiples).flat_map(around)).collect()
+}
+
+/// Well-formed text of one alphabet and exactly so many bytes; ASCII in front where characters do not fill it.
+fn exact(random: &mut Random, alphabet: usize, length: usize) -> Vec<u8> {
+    let mut text = String::new();
+    loop {
+        let c = random.character(alphabet);
+        if text.len() + c.len_utf8() > length {
+            break;
+        }
+        text.push(c);
+    }
+    let mut filled = vec![b'x'; length - text.len()];
+    filled.extend(text.bytes());
+    filled
+}
+
+/// What damages where it stands: bytes that begin nothing, and beginnings alone.
+const DAMAGE: [&[u8]; 4] = [b"\x80", b"\xFF", b"\xE2", b"\xF0\x9F"];
+/// What is whole in a stretch of another kind; it damages the characters that it cuts into.
+const WHOLE: [&[u8]; 2] = [b"\n", b"\xF0\x9F\x9A\x86"];
+
+fn bytes(run: &mut Run, text: &[u8], turn: usize) {
+    conversions::of_bytes(run, text);
+    let c = (turn % 5).min(text.len());
+    let cuts = [c, text.len()];
+    let room = turn % 3;
+    repair_course(
+        run,
+        &Course {
+            text,
+            cuts: &cuts,
+            room,
+        },
+    );
+    build_course(
+        run,
+        &Course {
+            text,
+            cuts: &cuts,
+            room: 0,
+        },
+    );
+}
+
+/// Damage, and then something whole, put over clean text at each place near an edge.
+fn damaged(run: &mut Run, clean: &[u8], places: &[usize]) {
+    for (turn, &at) in places.iter().enumerate() {
+        let kind = turn + clean.len();
+        for put in [DAMAGE[kind % 4], WHOLE[kind % 2]] {
+            if at + put.len() > clean.len() {
+                continue;
+            }
+            let mut text = clean.to_vec();
+            text[at..at + put.len()].copy_from_slice(put);
+            bytes(run, &text, turn);
+        }
+    }
+}
+
+fn units(run: &mut Run, length: usize, places: &[usize]) {
+    for alphabet in [0, 2, 4] {
+        let text: String = (0..length)
+            .map(|_| run.random.character(alphabet))
+            .collect();
+        let mut clean: Vec<u16> = text.encode_utf16().collect();
+        clean.truncate(length);
+        conversions::of_units(run, &clean);
+        for &at in places.iter().filter(|&&at| at < length) {
+            let mut text = clean.clone();
+            text[at] = run.random.pick(&[0xD83D, 0xDE86, 0xFFFF]);
+            conversions::of_units(run, &text);
+        }
+    }
+}
+
+fn codes(run: &mut Run, length: usize, places: &[usize]) {
+    let clean: Vec<u32> = (0..length)
+        .map(|_| run.random.character(5).into())
+        .collect();
+    for &at in places.iter().filter(|&&at| at < length) {
+        let mut text = clean.clone();
+        text[at] = run.random.pick(&[0xD800, 0xDFFF, 0x110000, 0x41]);
+        conversions::of_codes(run, &text);
+    }
+}
+
+pub fn all(run: &mut Run) {
+    for _ in 0..run.rounds(1) {
+        for &length in &near_edges(3) {
+            let places = near_edges(3);
+            for alphabet in 0..6 {
+                let clean = exact(&mut run.random, alphabet, length);
+                bytes(run, &clean, length);
+                damaged(run, &clean, &places);
+            }
+            units(run, length, &places);
+            codes(run, length, &places);
+        }
+    }
+}
