@@ -1,3 +1,5 @@
 pub mod Putting
 pub mod Counting
+pub mod Passing
+pub mod Units
 pub mod Rounds

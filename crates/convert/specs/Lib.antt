@@ -1,2 +1,3 @@
 pub mod Target
 pub mod Puts
+pub mod Passes

@@ -1,11 +1,12 @@
 // From UTF-16 units.
 use crate::Target;
+use plain::Part;
 use terms::Checked;
 use terms::Decoder;
 use terms::Refusal;
 use terms::Written;
 ghost use mathlib.Core.Path.{_≡_};
-ghost use Prim.Native.Nat.{_≤_};
+ghost use Prim.Native.Nat.{_≤_, _<_};
 ghost use lib.ListN.{length};
 ghost use Rattle.terms.specs.Limits.{limit};
 ghost use Rattle.terms.specs.Form.{repaired, converted};
@@ -16,6 +17,7 @@ ghost use Rattle.utf16.specs.Scalar.{utf16};
 ghost use Rattle.points.specs.Points.{codes};
 ghost use Rattle.convert.specs.Target.{formOf};
 ghost use Rattle.convert.specs.Puts.{Puts};
+ghost use Rattle.convert.specs.Passes.{Passes, PassesTo};
 
 // How many places a text takes in another form.
 fn need(text: &[u16], target: Target) -> usize
@@ -32,6 +34,88 @@ fn need(text: &[u16], target: Target) -> usize
     total
 }
 
+// How many bytes the code points take that begin in front of a place.
+fn count_segments(text: &[u16], stop: usize) -> Part
+    requires { ⌜ (0 < stop) × (stop ≤ length (now text)) × (length (now text) ≤ limit) ⌝ }
+    ensures { λ r. ⌜ Passes utf16 utf8 (now (text .entry)) (r .read) (r .places) ⌝ }
+{
+    let mut at: usize = 0;
+    let mut places: usize = 0;
+    while at < stop {
+        let p = utf16::point(&text[at..]);
+        places += crate::bytes_of(p.number);
+        at += p.size;
+    }
+    Part {
+        read: at,
+        places: places,
+    }
+}
+
+// A block of plain units at once, or the code points that begin in as many units.
+fn count_part(text: &[u16]) -> Part
+    requires { ⌜ (0 < length (now text)) × (length (now text) ≤ limit) ⌝ }
+    ensures { λ r. ⌜ Passes utf16 utf8 (now (text .entry)) (r .read) (r .places) ⌝ }
+{
+    let p = plain::count_block(text);
+    if 0 < p.read {
+        return p;
+    }
+    let size = text.len();
+    if size < 128 {
+        return count_segments(text, size);
+    }
+    count_segments(text, 128)
+}
+
+// How many bytes a text takes.
+fn need_bytes(text: &[u16]) -> usize
+    requires { ⌜ length (now text) ≤ limit ⌝ }
+    ensures { λ r. ⌜ r ≡ length (converted utf16 utf8 (now (text .entry))) ⌝ }
+{
+    let mut at: usize = 0;
+    let mut total: usize = 0;
+    while at < text.len() {
+        let p = count_part(&text[at..]);
+        total += p.places;
+        at += p.read;
+    }
+    total
+}
+
+fn write_segments(text: &[u16], stop: usize, out: &mut [u8]) -> Part
+    requires { ⌜ (0 < stop) × (stop ≤ length (now text)) × (length (converted utf16 utf8 (now text)) ≤ length (now out)) ⌝ }
+    ensures { λ r. ⌜ PassesTo utf16 utf8 (now (text .entry)) (now (out .entry)) (now (out .exit)) (r .read) (r .places) ⌝ }
+{
+    let mut at: usize = 0;
+    let mut done: usize = 0;
+    while at < stop {
+        let p = utf16::point(&text[at..]);
+        done += crate::put_bytes(&mut out[done..], p.number);
+        at += p.size;
+    }
+    Part {
+        read: at,
+        places: done,
+    }
+}
+
+// A block of plain units at once, or the code points that begin in as many units.
+fn write_part(text: &[u16], out: &mut [u8]) -> Part
+    requires { ⌜ (0 < length (now text)) × (length (converted utf16 utf8 (now text)) ≤ length (now out)) ⌝ }
+    ensures { λ r. ⌜ PassesTo utf16 utf8 (now (text .entry)) (now (out .entry)) (now (out .exit)) (r .read) (r .places) ⌝ }
+{
+    let p = plain::put_block(text, out);
+    if 0 < p.read {
+        return p;
+    }
+    let size = text.len();
+    if size < 128 {
+        return write_segments(text, size, out);
+    }
+    write_segments(text, 128, out)
+}
+
 fn write_bytes(text: &[u16], out: &mut [u8]) -> usize
     requires { ⌜ length (converted utf16 utf8 (now text)) ≤ length (now out) ⌝ }
     ensures { λ r. ⌜ Puts (converted utf16 utf8 (now (text .entry))) (now (out .entry)) (now (out .exit)) r ⌝ }
@@ -39,9 +123,9 @@ fn write_bytes(text: &[u16], out: &mut [u8]) -> usize
     let mut at: usize = 0;
     let mut done: usize = 0;
     while at < text.len() {
-        let p = utf16::point(&text[at..]);
-        done += crate::put_bytes(&mut out[done..], p.number);
-        at += p.size;
+        let p = write_part(&text[at..], &mut out[done..]);
+        done += p.places;
+        at += p.read;
     }
     done
 }
@@ -86,7 +170,11 @@ pub fn repair_to_bytes(text: &[u16], out: &mut [u8]) -> Written
     if Decoder::LIMIT < text.len() {
         return Written::Refused(Refusal::OverLimit);
     }
-    let bytes = need(text, Target::Bytes);
+    // three places for each unit are always enough
+    if text.len() * 3 <= out.len() {
+        return Written::Count(write_bytes(text, out));
+    }
+    let bytes = need_bytes(text);
     if out.len() < bytes {
         return Written::Refused(Refusal::NoRoom { needed: bytes });
     }

@@ -1,3 +1,5 @@
 pub mod Rows
 pub mod Reading
 pub mod Scalars
+pub mod Plain
+pub mod Pairs

@@ -1,2 +1,4 @@
 pub mod Units
 pub mod Scalar
+pub mod Plain
+pub mod Paired

@@ -1,13 +1,15 @@
 -- What is written, and what the rest of the text writes, is the form.
 -- Assumes nothing.
+use mathlib.Core.Path.{ap, _∙_}
 use Prim.Native.Nat.{_+_, _-_}
-use lib.ListN.{length}
+use lib.ListN.{length, length-drop}
 use native.Mathlib.Omega.{arith}
-use Rattle.terms.proofs.Writing.{Met, met, back, Wrote, wrote-start, wrote-room, wrote-next, wrote-end}
+use borrow.Author.Needs.{needs}
+use Rattle.terms.proofs.Walking.{part-is}
+use Rattle.terms.proofs.Writing.{back, Wrote, wrote-start, wrote-end}
 use Rattle.utf16.specs.Scalar.{utf16}
 use Rattle.utf8.specs.Scalar.{utf8}
-use Rattle.utf16.proofs.Scalars.{utf16-faithful}
-use borrow.Author.Needs.{needs}
+use Rattle.convert.proofs.Passing.{rest-room, wrote-pass}
 use Rattle.convert.proofs.from_units.write_bytes.Statement.{statement}
 use Rattle.convert.proofs.from_units.write_bytes.Tie as tie
 
@@ -20,75 +22,63 @@ abbrev μ-loop : tie.MeasureT-loop
 loop-holds : tie.Need-loop-holds Inv-loop μ-loop
 loop-holds c = let a = c .before .before .args in wrote-start utf16 utf8 (a .text .now) (a .out .now)
 
-mul-point : tie.Need-mul-point Inv-loop μ-loop
-mul-point c = search needs
+mul-write-part : tie.Need-mul-write-part Inv-loop μ-loop
+mul-write-part c = search needs
 
-sub-point : tie.Need-sub-point Inv-loop μ-loop
-sub-point c = search needs
+sub-write-part : tie.Need-sub-write-part Inv-loop μ-loop
+sub-write-part c = search needs
 
-part-point-start : tie.Need-part-point-start Inv-loop μ-loop
-part-point-start c = search needs
+part-write-part-start : tie.Need-part-write-part-start Inv-loop μ-loop
+part-write-part-start c = search needs
 
-part-point-end : tie.Need-part-point-end Inv-loop μ-loop
-part-point-end c = search needs
+part-write-part-end : tie.Need-part-write-part-end Inv-loop μ-loop
+part-write-part-end c = search needs
 
-point-requires : tie.Need-point-requires Inv-loop μ-loop
-point-requires c κs = search needs
+sub-write-part-2 : tie.Need-sub-write-part-2 Inv-loop μ-loop
+sub-write-part-2 c = search needs
 
-sub-put-bytes : tie.Need-sub-put-bytes Inv-loop μ-loop
-sub-put-bytes c = search needs
+part-write-part-start-2 : tie.Need-part-write-part-start-2 Inv-loop μ-loop
+part-write-part-start-2 c = search needs
 
-part-put-bytes-start : tie.Need-part-put-bytes-start Inv-loop μ-loop
-part-put-bytes-start c = search needs
+part-write-part-end-2 : tie.Need-part-write-part-end-2 Inv-loop μ-loop
+part-write-part-end-2 c = search needs
 
-part-put-bytes-end : tie.Need-part-put-bytes-end Inv-loop μ-loop
-part-put-bytes-end c = search needs
-
--- the code point that was read, and what is written so far
-here : (c : tie.After-point Inv-loop μ-loop)
-    → let l = c .before .before .before in
-    Met utf16 (l .before .before .before .args .text .now) (l .loop .at) (c .point .result .size) (c .point .result .number)
-here c =
+write-part-requires : tie.Need-write-part-requires Inv-loop μ-loop
+write-part-requires c κs =
     let i = c .before .before in
     let l = i .before in
-    met utf16-faithful (l .before .before .before .args .text .now) (l .loop .at) (i .loop-test .taken) _ _ (c .point .ensures)
-
-put-bytes-requires : tie.Need-put-bytes-requires Inv-loop μ-loop
-put-bytes-requires c κs =
-    let p = c .before in
-    let l = p .before .before .before in
     let b = l .before .before .before in
-    let m = here p in
-    (m .scalar, wrote-room utf16 utf8 (b .args .text .now) (b .args .out .now) (l .loop .out) (l .loop .at) (l .loop .done) (l .loop .inv) (b .pre) _ _ m)
+    let t = b .args .text .now in (
+      omega (arith, ap length (part-is t (l .loop .at)) ∙ length-drop (l .loop .at) t, i .loop-test .taken),
+      rest-room utf16 utf8 t (b .args .out .now) (l .loop .out) (l .loop .at) (l .loop .done) (l .loop .inv) (b .pre),
+    )
 
--- and what is written then
-after : (c : tie.After-put-bytes Inv-loop μ-loop)
-    → let p = c .before .before in
-    let l = p .before .before .before in
+-- one pass more
+after : (c : tie.After-write-part Inv-loop μ-loop)
+    → let l = c .before .before .before .before in
     let a = l .before .before .before .args in
-    Wrote utf16 utf8 (a .text .now) (a .out .now) (back (l .loop .out) (l .loop .done) (c .put-bytes .last .0)) (l .loop .at + p .point .result .size) (l .loop .done + c .put-bytes .result)
+    Wrote utf16 utf8 (a .text .now) (a .out .now) (back (l .loop .out) (l .loop .done) (c .write-part .last .1 .0))
+    (l .loop .at + c .write-part .result .read) (l .loop .done + c .write-part .result .places)
 after c =
-    let p = c .before .before in
-    let l = p .before .before .before in
+    let l = c .before .before .before .before in
     let b = l .before .before .before in
-    rw (c .put-bytes .ensures .count)
-    (wrote-next utf16 utf8 (b .args .text .now) (b .args .out .now) (l .loop .out) (l .loop .at) (l .loop .done) (l .loop .inv) (b .pre) _ _ (here p)
-    (c .put-bytes .last .0) (c .put-bytes .ensures .output))
+    wrote-pass utf16 utf8 (b .args .text .now) (b .args .out .now) (l .loop .out) (l .loop .at) (l .loop .done) (l .loop .inv) (b .pre)
+    (c .write-part .last .1 .0) _ _ (c .write-part .ensures)
 
 add-done : tie.Need-add-done Inv-loop μ-loop
 add-done c =
-    let w = after (c .before .before) in
-    let b = c .before .before .before .before .before .before .before .before .before .before in
-    omega (arith, w .within, b .good)
+    let p = c .before .before .before in
+    let w = after p in
+    omega (arith, w .within, p .before .before .before .before .before .before .before .good)
 
 add-at : tie.Need-add-at Inv-loop μ-loop
-add-at c = let m = here (c .before .before .before .before .before) in omega (arith, m .inside)
+add-at c = let w = after (c .before .before .before .before) in omega (arith, w .inside)
 
 loop-less : tie.Need-loop-less Inv-loop μ-loop
-loop-less c = let m = here (c .before .before .before .before .before) in omega (arith, m .some, m .inside)
+loop-less c = let p = c .before .before .before .before in let w = after p in omega (arith, w .inside, p .write-part .ensures .passes .some)
 
 loop-again : tie.Need-loop-again Inv-loop μ-loop
-loop-again c = after (c .before .before .before)
+loop-again c = after (c .before .before .before .before)
 
 same-length : tie.Need-same-length Inv-loop μ-loop
 same-length c = c .before .loop .inv .long
@@ -107,15 +97,14 @@ write-bytes-spec =
     Inv-loop
     μ-loop
     loop-holds
-    mul-point
-    sub-point
-    part-point-start
-    part-point-end
-    point-requires
-    sub-put-bytes
-    part-put-bytes-start
-    part-put-bytes-end
-    put-bytes-requires
+    mul-write-part
+    sub-write-part
+    part-write-part-start
+    part-write-part-end
+    sub-write-part-2
+    part-write-part-start-2
+    part-write-part-end-2
+    write-part-requires
     add-done
     add-at
     loop-less

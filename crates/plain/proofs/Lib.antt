@@ -1,0 +1,3 @@
+pub mod Mapping
+pub mod Squeezing
+pub mod Blocks

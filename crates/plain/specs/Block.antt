@@ -1,0 +1,33 @@
+-- Blocks of plain units, and the bytes of units that each stand by themselves.
+-- Assumes nothing.
+use mathlib.Core.Path.{_≡_}
+use Prim.Native.Nat.{ℕ}
+use mathlib.Core.Bool.{cond}
+use mathlib.Core.List.{List, [], _++_}
+use lib.ListN.{length, take, drop}
+use lib.Dec.{ltb}
+use Rattle.division.specs.Tally.{written}
+use Rattle.utf8.specs.Scalar.{sequence}
+use Rattle.utf16.specs.Plain.{plain}
+use Rattle.plain.specs.declared.Part.{Part}
+
+-- the first 128 units of a text where these are plain, or none
+abbrev pub block : List ℕ → List ℕ
+block text = cond (ltb (length text) 128) [] (cond (plain (take 128 text)) (take 128 text) [])
+
+-- none, where an output has not three places for each of them
+abbrev pub roomy : ℕ → List ℕ → List ℕ
+roomy room text = cond (ltb room 384) [] (block text)
+
+abbrev pub bytesOf : List ℕ → List ℕ
+bytesOf units = written sequence units
+
+-- these units were read, and take so many places
+pub record Counts (units : List ℕ) (r : Part) : Type 0 where
+  pub read-is : r .read ≡ length units
+  pub places-is : r .places ≡ length (bytesOf units)
+
+-- and their bytes stand at the start of the output; the places behind keep what they held
+pub record Puts (units out out′ : List ℕ) (r : Part) : Type 0 where
+  pub counts : Counts units r
+  pub output : out′ ≡ bytesOf units ++ drop (length (bytesOf units)) out
