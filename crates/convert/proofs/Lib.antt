@@ -3,3 +3,5 @@ pub mod Counting
 pub mod Passing
 pub mod Units
 pub mod Rounds
+pub mod Running
+pub mod Answering

@@ -5,15 +5,20 @@ use terms::Decoder;
 use terms::Refusal;
 use terms::Written;
 ghost use mathlib.Core.Path.{_≡_};
+ghost use mathlib.Core.Bool.{cond};
+ghost use mathlib.Core.List.{_++_};
 ghost use Prim.Native.Nat.{_≤_};
-ghost use lib.ListN.{length};
+ghost use lib.ListN.{length, take, drop};
+ghost use lib.Dec.{ltb};
 ghost use Rattle.terms.specs.Limits.{limit};
 ghost use Rattle.terms.specs.Form.{repaired, converted};
 ghost use Rattle.terms.specs.Strict.{damaged};
-ghost use Rattle.terms.specs.Writing.{Writes, repairSays, convertSays};
+ghost use Rattle.terms.specs.Writing.{Writes, roomed, repairSays, convertSays};
+ghost use Rattle.utf8.specs.Run.{wholeRun};
 ghost use Rattle.utf8.specs.Scalar.{utf8};
 ghost use Rattle.utf16.specs.Scalar.{utf16};
 ghost use Rattle.points.specs.Points.{codes};
+ghost use Rattle.spelling.specs.Spell.{spelled};
 ghost use Rattle.convert.specs.Target.{formOf};
 ghost use Rattle.convert.specs.Puts.{Puts};
 
@@ -32,32 +37,116 @@ fn need(text: &[u8], target: Target) -> usize
     total
 }
 
+// The whole segments at the start of a text, where the last few that were read were calm; else none of them.
+fn run_of(text: &[u8], calm: usize) -> usize
+    ensures { λ r. ⌜ r ≡ cond (ltb calm 4) 0 (wholeRun (now (text .entry))) ⌝ }
+{
+    if calm < 4 {
+        return 0;
+    }
+    utf8::whole_run(text)
+}
+
+// How many segments in a row had no U+FFFD, with one more.
+fn calm_behind(calm: usize, number: u32) -> usize {
+    if number == 0xFFFD {
+        return 0;
+    }
+    if calm < 4 {
+        return calm + 1;
+    }
+    0
+}
+
+// The first n bytes of a text, at the start of the output.
+fn copy(text: &[u8], n: usize, out: &mut [u8])
+    requires { ⌜ (n ≤ length (now text)) × (n ≤ length (now out)) ⌝ }
+    ensures { λ r. ⌜ now (out .exit) ≡ take n (now (text .entry)) ++ drop n (now (out .entry)) ⌝ }
+{
+    let mut i: usize = 0;
+    while i < n {
+        out[i] = text[i];
+        i += 1;
+    }
+}
+
+// How many bytes the repaired form has: runs of whole segments are counted at once.
+fn need_bytes(text: &[u8]) -> usize
+    requires { ⌜ length (now text) ≤ limit ⌝ }
+    ensures { λ r. ⌜ r ≡ length (converted utf8 utf8 (now (text .entry))) ⌝ }
+{
+    let mut at: usize = 0;
+    let mut total: usize = 0;
+    let mut calm: usize = 4;
+    loop {
+        let run = run_of(&text[at..], calm);
+        total += run;
+        at += run;
+        if text.len() <= at {
+            return total;
+        }
+        let p = utf8::point(&text[at..]);
+        total += crate::bytes_of(p.number);
+        at += p.size;
+        calm = calm_behind(calm, p.number);
+    }
+}
+
+// Runs of whole segments are copied at once.
 fn write_bytes(text: &[u8], out: &mut [u8]) -> usize
     requires { ⌜ length (converted utf8 utf8 (now text)) ≤ length (now out) ⌝ }
     ensures { λ r. ⌜ Puts (converted utf8 utf8 (now (text .entry))) (now (out .entry)) (now (out .exit)) r ⌝ }
 {
     let mut at: usize = 0;
     let mut done: usize = 0;
-    while at < text.len() {
+    let mut calm: usize = 4;
+    loop {
+        let run = run_of(&text[at..], calm);
+        copy(&text[at..], run, &mut out[done..]);
+        done += run;
+        at += run;
+        if text.len() <= at {
+            return done;
+        }
         let p = utf8::point(&text[at..]);
         done += crate::put_bytes(&mut out[done..], p.number);
         at += p.size;
+        calm = calm_behind(calm, p.number);
     }
-    done
 }
 
+// The units of a text's first n bytes, which are whole segments.
+fn spell(text: &[u8], n: usize, out: &mut [u16]) -> usize
+    requires { ⌜ n ≤ length (now text) ⌝ }
+    requires { ⌜ length (spelled (take n (now text))) ≤ length (now out) ⌝ }
+    ensures { λ r. ⌜ Puts (spelled (take n (now (text .entry)))) (now (out .entry)) (now (out .exit)) r ⌝ }
+{
+    match spelling::write(&text[..n], out) {
+        Written::Count(put) => put,
+        Written::Refused(_) => 0,
+    }
+}
+
+// Runs of whole segments are spelled at once.
 fn write_units(text: &[u8], out: &mut [u16]) -> usize
     requires { ⌜ length (converted utf8 utf16 (now text)) ≤ length (now out) ⌝ }
     ensures { λ r. ⌜ Puts (converted utf8 utf16 (now (text .entry))) (now (out .entry)) (now (out .exit)) r ⌝ }
 {
     let mut at: usize = 0;
     let mut done: usize = 0;
-    while at < text.len() {
+    let mut calm: usize = 4;
+    loop {
+        let run = run_of(&text[at..], calm);
+        done += spell(&text[at..], run, &mut out[done..]);
+        at += run;
+        if text.len() <= at {
+            return done;
+        }
         let p = utf8::point(&text[at..]);
         done += crate::put_units(&mut out[done..], p.number);
         at += p.size;
+        calm = calm_behind(calm, p.number);
     }
-    done
 }
 
 fn write_codes(text: &[u8], out: &mut [u32]) -> usize
@@ -74,6 +163,23 @@ fn write_codes(text: &[u8], out: &mut [u32]) -> usize
     done
 }
 
+// A text with no damage stays as it is.
+fn repair_whole(text: &[u8], out: &mut [u8]) -> Written
+    ensures { λ r. ⌜ Writes
+        (roomed (length (now (out .entry))) (now (text .entry)))
+        (now (text .entry))
+        (now (out .entry))
+        (now (out .exit))
+        r ⌝ }
+{
+    let bytes = text.len();
+    if out.len() < bytes {
+        return Written::Refused(Refusal::NoRoom { needed: bytes });
+    }
+    copy(text, bytes, out);
+    Written::Count(bytes)
+}
+
 // Whole segments as they are, U+FFFD for each damage.
 pub fn repair(text: &[u8], out: &mut [u8]) -> Written
     ensures { λ r. ⌜ Writes
@@ -86,7 +192,13 @@ pub fn repair(text: &[u8], out: &mut [u8]) -> Written
     if Decoder::LIMIT < text.len() {
         return Written::Refused(Refusal::OverLimit);
     }
-    let bytes = need(text, Target::Bytes);
+    if text.len() <= out.len() / 3 {
+        return Written::Count(write_bytes(text, out));
+    }
+    if utf8::whole_run(text) == text.len() {
+        return repair_whole(text, out);
+    }
+    let bytes = need_bytes(text);
     if out.len() < bytes {
         return Written::Refused(Refusal::NoRoom { needed: bytes });
     }
@@ -104,6 +216,9 @@ pub fn repair_to_units(text: &[u8], out: &mut [u16]) -> Written
 {
     if Decoder::LIMIT < text.len() {
         return Written::Refused(Refusal::OverLimit);
+    }
+    if text.len() <= out.len() {
+        return Written::Count(write_units(text, out));
     }
     let units = need(text, Target::Units);
     if out.len() < units {
@@ -141,7 +256,7 @@ pub fn to_units(text: &[u8], out: &mut [u16]) -> Written
         r ⌝ }
 {
     match utf8::check(text) {
-        Checked::WellFormed => repair_to_units(text, out),
+        Checked::WellFormed => spelling::write(text, out),
         Checked::Refused(r) => Written::Refused(r),
     }
 }

@@ -1,11 +1,11 @@
 -- The walk that writes, whatever is written: what it has counted and written when it has come to a place of the text.
 -- Assumes nothing.
-use mathlib.Core.Path.{_≡_, refl, sym, ap, _∙_}
+use mathlib.Core.Path.{_≡_, refl, sym, ap, subst, _∙_}
 use Prim.Native.Nat.{ℕ, suc, _+_, _-_, _≤_, _<_}
 use mathlib.Core.Bool.{true}
 use mathlib.Core.List.{List, [], _∷_, _++_, append-assoc, append-nil}
 use lib.ListN.{length, take, drop, length-append, length-drop, take-append-drop, drop-of-length-le}
-use lib.Seq.{drop-drop, take-at, drop-at, length-take-le}
+use lib.Seq.{drop-drop, take-at, drop-at, length-take-le, sets, sets-eq}
 use native.Mathlib.Omega.{arith}
 use Rattle.division.specs.Reader.{Segment, cut}
 use Rattle.division.specs.Reader as reader
@@ -47,32 +47,6 @@ met {F} f text at h n c told = go (drop at text) refl (rw part-is at told)
           cuts = rw (← drop-drop n at text, e, m) (cut-cons (F .look) x xs);
         }
 
--- ---- the need: so much is counted, and the rest of the text adds what is left of it
-
-module _ (F G : Form) (text : List ℕ) where
-  abbrev left : ℕ → List ℕ
-  left at = converted F G (drop at text)
-
-  pub record Counted (at total : ℕ) : Type 0 where
-    pub inside : at ≤ length text
-    pub same : total + length (left at) ≡ length (converted F G text)
-
-  pub counted-start : Counted 0 0
-  counted-start = record { inside = omega arith; same = omega arith }
-
-  left-next : (at n c : ℕ) → Met F text at n c → left at ≡ G .write c ++ left (at + n)
-  left-next at n c m = rw (m .cuts, m .point-is)
-
-  pub left-end : (at : ℕ) → length text ≤ at → left at ≡ []
-  left-end at h = rw (drop-of-length-le text h, cut-nil)
-
-  pub counted-next : (at total n c : ℕ) → Counted at total → Met F text at n c → Counted (at + n) (total + length (G .write c))
-  counted-next at total n c k m =
-      record { inside = m .inside; same = omega (arith, k .same, ap length (left-next at n c m), length-append (G .write c) (left (at + n))) }
-
-  pub counted-end : (at total : ℕ) → Counted at total → length text ≤ at → total ≡ length (converted F G text)
-  counted-end at total k h = omega (arith, k .same, ap length (left-end at h))
-
 -- ---- an output whose part from place n on was lent, and came back with some places written at its start
 
 -- the part that `&mut out[n..]` lends, and the output once it is back
@@ -91,75 +65,136 @@ back-is out n ys =
 abbrev pub Put : List ℕ → List ℕ → List ℕ → Type 0
 Put vs out out′ = out′ ≡ vs ++ drop (length vs) out
 
--- ---- the writing: so much is written, and the rest of the text writes what is left
+-- ---- A WALK over so many elements, of which those from each place on write what is left there
 
-module _ (F G : Form) (text out₀ : List ℕ) where
-  pub record Wrote (out : List ℕ) (at n : ℕ) : Type 0 where
-    pub inside : at ≤ length text
-    pub long : length out ≡ length out₀
-    pub within : n ≤ length out₀
-    pub form : take n out ++ left F G text at ≡ converted F G text
-    pub kept : drop n out ≡ drop n out₀
+module _ (left : ℕ → List ℕ) (elements : ℕ) where
+  -- a stride at a place: k elements are passed over, and they write vs
+  pub record Passed (at k : ℕ) (vs : List ℕ) : Type 0 where
+    pub inside : at + k ≤ elements
+    pub same : left at ≡ vs ++ left (at + k)
 
-  pub wrote-start : Wrote out₀ 0 0
-  wrote-start = record { inside = omega arith; long = refl; within = omega arith; form = refl; kept = refl }
+  -- so much is counted, and the rest adds what is left of it
+  pub record Summed (at total : ℕ) : Type 0 where
+    pub inside : at ≤ elements
+    pub same : total + length (left at) ≡ length (left 0)
 
-  module _ (out : List ℕ) (at n : ℕ) (w : Wrote out at n) where
-    placed : length (take n out) ≡ n
-    placed = length-take-le n out (omega (arith, w .long, w .within))
+  pub summed-start : Summed 0 0
+  summed-start = record { inside = omega arith; same = omega arith }
 
-    total : n + length (left F G text at) ≡ length (converted F G text)
-    total = omega (arith, placed, ap length (w .form), length-append (take n out) (left F G text at))
+  pub summed-on : (at total k : ℕ) (vs : List ℕ) → Summed at total → Passed at k vs → Summed (at + k) (total + length vs)
+  summed-on at total k vs c p = record { inside = p .inside; same = omega (arith, c .same, ap length (p .same), length-append vs (left (at + k))) }
 
-    pub wrote-end : length text ≤ at → (n ≡ length (converted F G text)) × (out ≡ converted F G text ++ drop (length (converted F G text)) out₀)
-    wrote-end h =
-        let e : left F G text at ≡ [] = left-end F G text at h in
-        let l : n ≡ length (converted F G text) = omega (arith, total, ap length e) in
-        let t : take n out ≡ converted F G text = sym (append-nil (take n out)) ∙ rw e at (w .form) in
-        (l, sym (take-append-drop n out) ∙ rw (t, w .kept, l))
+  pub summed-end : (at total : ℕ) → Summed at total → left at ≡ [] → total ≡ length (left 0)
+  summed-end at total c e = omega (arith, c .same, ap length e)
 
-    module _ (room : length (converted F G text) ≤ length out₀) (k c : ℕ) (m : Met F text at k c) where
-      -- there is room for the next code point in the part that is lent
-      pub wrote-room : length (G .write c) ≤ length (lent out n)
-      wrote-room =
-          omega (
-            arith,
-            total,
-            w .long,
-            ap length (left-next F G text at k c m),
-            length-append (G .write c) (left F G text (at + k)),
-            ap length (part-is out n),
-            length-drop n out,
-          )
+  -- so much is written into an output, and the rest writes what is left
+  module _ (out₀ : List ℕ) where
+    pub record Filled (out : List ℕ) (at n : ℕ) : Type 0 where
+      pub inside : at ≤ elements
+      pub long : length out ≡ length out₀
+      pub within : n ≤ length out₀
+      pub form : take n out ++ left at ≡ left 0
+      pub kept : drop n out ≡ drop n out₀
 
-      front : List ℕ
-      front = take n out ++ G .write c
+    pub filled-start : Filled out₀ 0 0
+    filled-start = record { inside = omega arith; long = refl; within = omega arith; form = refl; kept = refl }
 
-      front-long : length front ≡ n + length (G .write c)
-      unfolding front
-      front-long = length-append (take n out) (G .write c) ∙ ap (λ (i : ℕ). i + length (G .write c)) placed
+    module _ (out : List ℕ) (at n : ℕ) (w : Filled out at n) where
+      placed : length (take n out) ≡ n
+      placed = length-take-le n out (omega (arith, w .long, w .within))
 
-      back-put : (ys : List ℕ) → Put (G .write c) (lent out n) ys → back out n ys ≡ front ++ drop (n + length (G .write c)) out
-      unfolding front
-      back-put ys p =
-          back-is out n ys
-          ∙ rw (p, part-is out n, drop-drop (length (G .write c)) n out) (sym (append-assoc (take n out) (G .write c) (drop (n + length (G .write c)) out)))
+      total : n + length (left at) ≡ length (left 0)
+      total = omega (arith, placed, ap length (w .form), length-append (take n out) (left at))
 
-      kept-next : drop (n + length (G .write c)) out ≡ drop (n + length (G .write c)) out₀
-      kept-next = rw (← drop-drop (length (G .write c)) n out, w .kept, drop-drop)
+      pub filled-end : left at ≡ [] → (n ≡ length (left 0)) × (out ≡ left 0 ++ drop (length (left 0)) out₀)
+      filled-end e =
+          let l : n ≡ length (left 0) = omega (arith, total, ap length e) in
+          let t : take n out ≡ left 0 = sym (append-nil (take n out)) ∙ rw e at (w .form) in
+          (l, sym (take-append-drop n out) ∙ rw (t, w .kept, l))
 
-      form-next : front ++ left F G text (at + k) ≡ converted F G text
-      unfolding front
-      form-next = rw (append-assoc, ← left-next F G text at k c m) (w .form)
+      module _ (room : length (left 0) ≤ length out₀) (k : ℕ) (vs : List ℕ) (p : Passed at k vs) where
+        -- there is room for what the stride writes in the part that is lent
+        pub filled-room : length vs ≤ length (lent out n)
+        filled-room = omega (arith, total, w .long, ap length (p .same), length-append vs (left (at + k)), ap length (part-is out n), length-drop n out)
 
-      pub wrote-next : (ys : List ℕ) → Put (G .write c) (lent out n) ys → Wrote (back out n ys) (at + k) (n + length (G .write c))
-      wrote-next ys p =
-          let i : ℕ = n + length (G .write c) in
-          let r : i ≤ length out₀ = omega (arith, room, total, ap length (left-next F G text at k c m), length-append (G .write c) (left F G text (at + k))) in
-          record {
-            inside = m .inside;
-            long = rw (back-put ys p, length-append, front-long) (omega (arith, w .long, length-drop i out));
-            within = r;
-            form = rw (back-put ys p, take-at front (drop i out) i front-long) form-next;
-            kept = rw (back-put ys p, drop-at front (drop i out) i front-long) kept-next;
-          }
+        front : List ℕ
+        front = take n out ++ vs
+
+        front-long : length front ≡ n + length vs
+        unfolding front
+        front-long = length-append (take n out) vs ∙ ap (λ (i : ℕ). i + length vs) placed
+
+        back-put : (ys : List ℕ) → Put vs (lent out n) ys → back out n ys ≡ front ++ drop (n + length vs) out
+        unfolding front
+        back-put ys q = back-is out n ys ∙ rw (q, part-is out n, drop-drop (length vs) n out) (sym (append-assoc (take n out) vs (drop (n + length vs) out)))
+
+        kept-next : drop (n + length vs) out ≡ drop (n + length vs) out₀
+        kept-next = rw (← drop-drop (length vs) n out, w .kept, drop-drop)
+
+        form-next : front ++ left (at + k) ≡ left 0
+        unfolding front
+        form-next = rw (append-assoc, ← p .same) (w .form)
+
+        pub filled-on : (ys : List ℕ) → Put vs (lent out n) ys → Filled (back out n ys) (at + k) (n + length vs)
+        filled-on ys q =
+            let i : ℕ = n + length vs in
+            let r : i ≤ length out₀ = omega (arith, room, total, ap length (p .same), length-append vs (left (at + k))) in
+            record {
+              inside = p .inside;
+              long = rw (back-put ys q, length-append, front-long) (omega (arith, w .long, length-drop i out));
+              within = r;
+              form = rw (back-put ys q, take-at front (drop i out) i front-long) form-next;
+              kept = rw (back-put ys q, drop-at front (drop i out) i front-long) kept-next;
+            }
+
+        -- the same, stored element by element
+        pub filled-sets : Filled (sets out n vs) (at + k) (n + length vs)
+        unfolding front
+        filled-sets =
+            let r : length vs ≤ length (drop n out) = rw (part-is out n) at filled-room in
+            let h : n + length vs ≤ length out = omega (arith, r, length-drop n out, w .long, w .within) in
+            let e : back out n (vs ++ drop (length vs) (lent out n)) ≡ sets out n vs =
+            back-put (vs ++ drop (length vs) (lent out n)) refl ∙ sym (sets-eq vs out n h) in
+            subst (λ (o : List ℕ). Filled o (at + k) (n + length vs)) e (filled-on (vs ++ drop (length vs) (lent out n)) refl)
+
+-- ---- the walk of a conversion, code point by code point
+
+module _ (F G : Form) (text : List ℕ) where
+  abbrev pub left : ℕ → List ℕ
+  left at = converted F G (drop at text)
+
+  pub left-end : (at : ℕ) → length text ≤ at → left at ≡ []
+  left-end at h = rw (drop-of-length-le text h, cut-nil)
+
+  pub passed : (at n c : ℕ) → Met F text at n c → Passed left (length text) at n (G .write c)
+  passed at n c m = record { inside = m .inside; same = rw (m .cuts, m .point-is) }
+
+  abbrev pub Counted : ℕ → ℕ → Type 0
+  Counted = Summed left (length text)
+
+  pub counted-start : Counted 0 0
+  counted-start = summed-start left (length text)
+
+  pub counted-next : (at total n c : ℕ) → Counted at total → Met F text at n c → Counted (at + n) (total + length (G .write c))
+  counted-next at total n c k m = summed-on left (length text) at total n (G .write c) k (passed at n c m)
+
+  pub counted-end : (at total : ℕ) → Counted at total → length text ≤ at → total ≡ length (converted F G text)
+  counted-end at total k h = summed-end left (length text) at total k (left-end at h)
+
+  module _ (out₀ : List ℕ) where
+    abbrev pub Wrote : List ℕ → ℕ → ℕ → Type 0
+    Wrote = Filled left (length text) out₀
+
+    pub wrote-start : Wrote out₀ 0 0
+    wrote-start = filled-start left (length text) out₀
+
+    module _ (out : List ℕ) (at n : ℕ) (w : Wrote out at n) where
+      pub wrote-end : length text ≤ at → (n ≡ length (converted F G text)) × (out ≡ converted F G text ++ drop (length (converted F G text)) out₀)
+      wrote-end h = filled-end left (length text) out₀ out at n w (left-end at h)
+
+      module _ (room : length (converted F G text) ≤ length out₀) (k c : ℕ) (m : Met F text at k c) where
+        pub wrote-room : length (G .write c) ≤ length (lent out n)
+        wrote-room = filled-room left (length text) out₀ out at n w room k (G .write c) (passed at k c m)
+
+        pub wrote-next : (ys : List ℕ) → Put (G .write c) (lent out n) ys → Wrote (back out n ys) (at + k) (n + length (G .write c))
+        wrote-next = filled-on left (length text) out₀ out at n w room k (G .write c) (passed at k c m)

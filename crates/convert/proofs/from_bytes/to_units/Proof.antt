@@ -1,11 +1,12 @@
--- The check's refusal, or what repair answers, as there is nothing to repair.
+-- The check's refusal, or what the text spells, as there is no damage.
 -- Assumes nothing.
-use mathlib.Core.Path.{refl, sym, ap, _∙_}
+use mathlib.Core.Path.{sym, ap, _∙_}
 use Rattle.terms.specs.Strict.{damaged}
 use Rattle.terms.specs.Told.{checked}
-use Rattle.terms.proofs.Answering.{strict-refused, strict-granted}
+use Rattle.terms.proofs.Answering.{strict-refused}
 use Rattle.utf8.specs.Scalar.{utf8}
 use Rattle.utf16.specs.Scalar.{utf16}
+use Rattle.convert.proofs.Answering.{strict-spelled}
 use borrow.Author.Needs.{needs}
 use Rattle.convert.proofs.from_bytes.to_units.Statement.{statement}
 use Rattle.convert.proofs.from_bytes.to_units.Tie as tie
@@ -16,8 +17,8 @@ check-requires c κs = search needs
 enum-told : tie.Need-enum-told
 enum-told c = search needs
 
-repair-to-units-requires : tie.Need-repair-to-units-requires
-repair-to-units-requires c κs = search needs
+write-requires : tie.Need-write-requires
+write-requires c κs = search needs
 
 enum-known-r : tie.Need-enum-known-r
 enum-known-r c = search needs
@@ -31,8 +32,7 @@ returns c =
     let t = r .before .before in
     let k = t .before .before in
     let a = k .before .before .before .args in
-    strict-granted damaged utf8 utf16 (a .text .now) (a .out .now) (λ e. refl) (ap checked (sym (t .enum-told .given .1)) ∙ k .check .ensures)
-    (r .repair-to-units .last .1 .0) (r .repair-to-units .result) (r .repair-to-units .ensures)
+    strict-spelled (a .text .now) (a .out .now) (r .write .last .1 .0) (r .write .result) (ap checked (sym (t .enum-told .given .1)) ∙ k .check .ensures) (r .write .ensures)
 
 returns-2 : tie.Need-returns-2
 returns-2 c =
@@ -47,7 +47,7 @@ to-units-spec =
     (tie.spec
     check-requires
     enum-told
-    repair-to-units-requires
+    write-requires
     enum-known-r
     same-length
     returns

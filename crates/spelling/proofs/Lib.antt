@@ -1,0 +1,4 @@
+pub mod Spelling
+pub mod Wholes
+pub mod Striding
+pub mod Answering
