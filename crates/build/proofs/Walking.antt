@@ -1,7 +1,7 @@
 -- The walk over the settled segments of a text: the stream behind the text is that behind the rest of it, from the place reached.
 -- Assumes nothing.
 use mathlib.Core.Path.{_≡_, refl, sym, ap, _∙_}
-use Prim.Native.Nat.{ℕ, _+_, _-_, _≤_, _<_}
+use Prim.Native.Nat.{ℕ, _+_, _≤_, _<_}
 use mathlib.Core.List.{List, foldl, foldl-append}
 use lib.ListN.{length, getD, drop, length-drop}
 use lib.Seq.{drop-drop, length-sets}

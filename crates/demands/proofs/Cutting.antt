@@ -1,15 +1,11 @@
 -- Cut by a count of a place, a text is what lies before it.
 -- Assumes nothing.
 use mathlib.Core.Path.{_≡_, sym, ap, _∙_}
-use Prim.Native.Nat.{ℕ, suc, _≤_, _<_}
-use mathlib.Core.Bool.{Bool, true, false, _&&_}
+use Prim.Native.Nat.{ℕ}
+use mathlib.Core.Bool.{Bool, true}
 use mathlib.Core.List.{List}
-use lib.ListN.{length, getD, take, drop, drop-of-length-le}
-use lib.Seq.{length-take-le, drop-cons}
-use lib.Dec.{eqb}
-use borrow.Author.Tests.{eq-eqb, ne-eqb}
-use native.Mathlib.Omega.{arith}
-use Rattle.division.proofs.Cases.{split}
+use lib.ListN.{length, take}
+use lib.Seq.{length-take-le}
 use Rattle.division.proofs.Placing.{PlaceOf, place-in}
 use Rattle.utf8.specs.Bytes.{bytes}
 use Rattle.place.specs.Measures.{ruler}

@@ -1,7 +1,7 @@
 -- Segments that act: one after another, and with what is promised of the places, the sums and the list each time.
 -- Assumes nothing.
 use mathlib.Core.Path.{_≡_, refl, sym, ap, _∙_}
-use Prim.Native.Nat.{ℕ, _+_, _-_, _≤_}
+use Prim.Native.Nat.{ℕ, _+_, _≤_}
 use mathlib.Core.List.{List, [], _++_, append-assoc, foldl-append}
 use lib.ListN.{length, take, drop, length-append, length-drop}
 use lib.Seq.{drop-drop, take-at, drop-at, length-take-le, length-sets}
