@@ -1,0 +1,2 @@
+pub mod Piecing
+pub mod Joining

@@ -1,0 +1,235 @@
+-- `pieces::fed_alike` meets its contract: what both ways have found is what the text says.
+-- Assumes nothing.
+use Prim.Native.Nat.{_≤_, _*_}
+use mathlib.Core.Path.{_≡_, refl, sym, ap₂, _∙_}
+use mathlib.Core.Bool.{true≢false}
+use lib.ListN.{length, take}
+use lib.Seq.{length-take-le}
+use borrow.Author.Tests.{not-true, not-false}
+use native.Mathlib.Omega.{arith}
+use Rattle.comparing.proofs.Comparing.{equal-all}
+use Rattle.feeds.specs.Feeds.{Given, given}
+use Rattle.feeds.proofs.Joining.{Ran, once-ran, parts-ran}
+use Rattle.pieces.specs.Pieces.{lent, bothFed}
+use Rattle.pieces.proofs.Matching.{stored-in, same-totals, stored-in-other, same-stored}
+use borrow.Author.Needs.{needs}
+use Rattle.pieces.proofs.fed_alike.Statement.{statement}
+use Rattle.pieces.proofs.fed_alike.Tie as tie
+
+feed-once-requires : tie.Need-feed-once-requires
+feed-once-requires c κs = search needs
+
+feed-pieces-requires : tie.Need-feed-pieces-requires
+feed-pieces-requires c κs = search needs
+
+-- the places behind: the first feed and the start, and from behind the tests the calls
+abbrev first-feed : (c : tie.After-feed-pieces) → tie.After-feed-once
+first-feed c = c .before .before .before .before .before .before .before
+
+abbrev start : (c : tie.After-feed-pieces) → tie.Start
+start c = first-feed c .before .before .before .before .before .before .before .before .before .before
+
+abbrev calls : (c : tie.Else2) → tie.After-feed-pieces
+calls c = c .before .before .before .before .before .before .before .before
+
+-- what is in the buffers
+buffers : (c : tie.After-feed-pieces)
+    → lent (start c .args .whole .now) (first-feed c .feed-once .last .1 .1 .0) (first-feed c .feed-once .last .1 .1 .1 .0)
+    (c .feed-pieces .last .1 .1 .1 .0) (c .feed-pieces .last .1 .1 .1 .1 .0)
+    ≡ bothFed (start c .args .room) (start c .args .text .now) (start c .args .cuts .now)
+    (lent (start c .args .whole .now) (start c .args .once .now) (start c .args .once-list .now) (start c .args .parts .now) (start c .args .parts-list .now))
+buffers c =
+    let o = first-feed c in
+    let a = o .before .before .before .before .before .before .before .before .before .before .args in
+    ap₂ (λ (v w : Given). lent (a .whole .now) (v .out) (v .list) (w .out) (w .list)) (o .feed-once .ensures) (c .feed-pieces .ensures)
+
+-- what one feed has found, and the feeds of pieces
+abbrev one : (c : tie.After-feed-once) → Given
+one c = given (c .feed-once .result) (c .feed-once .last .1 .1 .0) (c .feed-once .last .1 .1 .1 .0)
+
+abbrev many : (c : tie.After-feed-pieces) → Given
+many c = given (c .feed-pieces .result) (c .feed-pieces .last .1 .1 .1 .0) (c .feed-pieces .last .1 .1 .1 .1 .0)
+
+same-length : tie.Need-same-length
+same-length c = search needs
+
+same-length-2 : tie.Need-same-length-2
+same-length-2 c = search needs
+
+same-length-3 : tie.Need-same-length-3
+same-length-3 c = search needs
+
+same-length-4 : tie.Need-same-length-4
+same-length-4 c = search needs
+
+returns : tie.Need-returns
+returns c = record { yes = refl; buffers = buffers (c .before .before .before .before .before .before) }
+
+same-length-5 : tie.Need-same-length-5
+same-length-5 c = search needs
+
+same-length-6 : tie.Need-same-length-6
+same-length-6 c = search needs
+
+same-length-7 : tie.Need-same-length-7
+same-length-7 c = search needs
+
+same-length-8 : tie.Need-same-length-8
+same-length-8 c = search needs
+
+returns-2 : tie.Need-returns-2
+returns-2 c = record { yes = refl; buffers = buffers (c .before .before .before .before .before .before .before .before) }
+
+one-ran : (c : tie.Else2) → Ran (start (calls c) .args .room) (start (calls c) .args .once-list .now) (start (calls c) .args .text .now) (one (first-feed (calls c)))
+one-ran c =
+    let o = first-feed (calls c) in
+    let a = o .before .before .before .before .before .before .before .before .before .before .args in
+    once-ran (a .room) (a .once-list .now) (a .text .now) (a .once .now) (one o) (o .feed-once .ensures) (not-false _ (c .before .before .if1 .left))
+
+many-ran : (c : tie.Else2) → Ran (start (calls c) .args .room) (start (calls c) .args .parts-list .now) (start (calls c) .args .text .now) (many (calls c))
+many-ran c =
+    let p = calls c in
+    let a = start p .args in
+    parts-ran (a .room) (a .parts-list .now) (a .text .now) (a .parts .now) (a .cuts .now) (many p) (p .feed-pieces .ensures) (not-false _ (c .if2 .left))
+
+same-totals-requires : tie.Need-same-totals-requires
+same-totals-requires c κs = search needs
+
+same-length-9 : tie.Need-same-length-9
+same-length-9 c = search needs
+
+same-length-10 : tie.Need-same-length-10
+same-length-10 c = search needs
+
+same-length-11 : tie.Need-same-length-11
+same-length-11 c = search needs
+
+same-length-12 : tie.Need-same-length-12
+same-length-12 c = search needs
+
+returns-3 : tie.Need-returns-3
+returns-3 c =
+    let e = c .before .before in
+    let p = calls e in
+    let o = first-feed p in
+    let a = o .before .before .before .before .before .before .before .before .before .before .args in
+    absurd (true≢false (sym (same-totals (a .room) (a .once-list .now) (a .parts-list .now) (a .text .now) (one o) (many p) (one-ran e) (many-ran e))
+    ∙ sym (c .before .same-totals .ensures) ∙ not-true _ (c .if3 .taken)))
+
+least-requires : tie.Need-least-requires
+least-requires c κs = search needs
+
+mul-n : tie.Need-mul-n
+mul-n c = record { fits = omega (arith, c .least .ensures, one-ran (c .before .before .before) .roomy) }
+
+slice-reshare-prefix-same-texts : tie.Need-slice-reshare-prefix-same-texts
+slice-reshare-prefix-same-texts c = one-ran (c .before .before .before) .fits
+
+slice-aggregate-same-texts : tie.Need-slice-aggregate-same-texts
+slice-aggregate-same-texts c = sym (length-take-le _ _ (one-ran (c .before .before .before .before) .fits))
+
+slice-reshare-prefix-same-texts-2 : tie.Need-slice-reshare-prefix-same-texts-2
+slice-reshare-prefix-same-texts-2 c = many-ran (c .before .before .before .before) .fits
+
+slice-aggregate-same-texts-2 : tie.Need-slice-aggregate-same-texts-2
+slice-aggregate-same-texts-2 c = sym (length-take-le _ _ (many-ran (c .before .before .before .before .before) .fits))
+
+-- as many entries as are stored
+stored-once : (c : tie.After-least) → 2 * c .least .result ≤ length (first-feed (calls (c .before .before .before)) .feed-once .last .1 .1 .1 .0)
+stored-once c =
+    let e = c .before .before .before in
+    let a = start (calls e) .args in
+    rw (c .least .ensures) (stored-in (a .room) (a .once-list .now) (a .text .now) (one (first-feed (calls e))) (one-ran e))
+
+stored-parts : (c : tie.After-least) → 2 * c .least .result ≤ length (calls (c .before .before .before) .feed-pieces .last .1 .1 .1 .1 .0)
+stored-parts c =
+    let e = c .before .before .before in
+    let a = start (calls e) .args in
+    rw (c .least .ensures)
+    (stored-in-other (a .room) (a .once-list .now) (a .parts-list .now) (a .text .now) (one (first-feed (calls e))) (many (calls e)) (one-ran e) (many-ran e))
+
+slice-reshare-prefix-same-texts-3 : tie.Need-slice-reshare-prefix-same-texts-3
+slice-reshare-prefix-same-texts-3 c = stored-once (c .before .before)
+
+slice-aggregate-same-texts-3 : tie.Need-slice-aggregate-same-texts-3
+slice-aggregate-same-texts-3 c = sym (length-take-le _ _ (stored-once (c .before .before .before)))
+
+slice-reshare-prefix-same-texts-4 : tie.Need-slice-reshare-prefix-same-texts-4
+slice-reshare-prefix-same-texts-4 c = stored-parts (c .before .before .before)
+
+slice-aggregate-same-texts-4 : tie.Need-slice-aggregate-same-texts-4
+slice-aggregate-same-texts-4 c = sym (length-take-le _ _ (stored-parts (c .before .before .before .before)))
+
+same-texts-requires : tie.Need-same-texts-requires
+same-texts-requires c κs = search needs
+
+same-length-13 : tie.Need-same-length-13
+same-length-13 c = search needs
+
+same-length-14 : tie.Need-same-length-14
+same-length-14 c = search needs
+
+same-length-15 : tie.Need-same-length-15
+same-length-15 c = search needs
+
+same-length-16 : tie.Need-same-length-16
+same-length-16 c = search needs
+
+returns-4 : tie.Need-returns-4
+returns-4 c =
+    let l = c .before .before .before .before .before in
+    let e = l .before .before .before in
+    let p = calls e in
+    let o = first-feed p in
+    let z = o .before .before .before .before .before .before .before .before .before .before in
+    let a = z .args in
+    let n = 2 * l .least .result in
+    record {
+      yes =
+          c .same-texts .ensures
+          ∙ equal-all (take (p .feed-pieces .result .written) (p .feed-pieces .last .1 .1 .1 .0)) (a .whole .now)
+          (take (o .feed-once .result .written) (o .feed-once .last .1 .1 .0)) (take n (p .feed-pieces .last .1 .1 .1 .1 .0)) (take n (o .feed-once .last .1 .1 .1 .0))
+          (many-ran e .output ∙ sym (z .pre))
+          (many-ran e .output ∙ sym (one-ran e .output))
+          (rw (l .least .ensures) (same-stored (a .room) (a .once-list .now) (a .parts-list .now) (a .text .now) (one o) (many p) (one-ran e) (many-ran e)));
+      buffers = buffers p;
+    }
+
+pub fed-alike-spec : {M : Type 1} → statement M
+fed-alike-spec =
+    tie.close
+    (tie.spec
+    feed-once-requires
+    feed-pieces-requires
+    same-length
+    same-length-2
+    same-length-3
+    same-length-4
+    returns
+    same-length-5
+    same-length-6
+    same-length-7
+    same-length-8
+    returns-2
+    same-totals-requires
+    same-length-9
+    same-length-10
+    same-length-11
+    same-length-12
+    returns-3
+    least-requires
+    mul-n
+    slice-reshare-prefix-same-texts
+    slice-aggregate-same-texts
+    slice-reshare-prefix-same-texts-2
+    slice-aggregate-same-texts-2
+    slice-reshare-prefix-same-texts-3
+    slice-aggregate-same-texts-3
+    slice-reshare-prefix-same-texts-4
+    slice-aggregate-same-texts-4
+    same-texts-requires
+    same-length-13
+    same-length-14
+    same-length-15
+    same-length-16
+    returns-4)

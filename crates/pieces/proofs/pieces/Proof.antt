@@ -1,0 +1,103 @@
+-- `pieces::pieces` meets its contract: the whole repair, and then both ways.
+-- Assumes nothing.
+use Prim.Native.Nat.{_≤_}
+use mathlib.Core.Path.{refl, sym}
+use lib.ListN.{length}
+use lib.Seq.{length-take-le}
+use native.Mathlib.Omega.{arith}
+use Rattle.terms.specs.Form.{repaired}
+use Rattle.terms.proofs.Answering.{repair-count}
+use Rattle.utf8.specs.Scalar.{utf8}
+use Rattle.pieces.proofs.Leaving.{repair-wrote, leaves-granted, leaves-refused}
+use borrow.Author.Needs.{needs}
+use Rattle.pieces.proofs.pieces.Statement.{statement}
+use Rattle.pieces.proofs.pieces.Tie as tie
+
+repair-requires : tie.Need-repair-requires
+repair-requires c κs = search needs
+
+enum-known-n : tie.Need-enum-known-n
+enum-known-n c = search needs
+
+within : (c : tie.After-known-told) → c .before .n .given .0 .0 ≤ length (c .before .before .before .before .before .repair .last .1 .0)
+within c =
+    let r = c .before .before .before .before .before in
+    let a = r .before .before .before .before .before .before .before .before .before .args in
+    let k = repair-count (a .text .now) (repaired utf8 (a .text .now)) (a .whole .now) (r .repair .last .1 .0) (r .repair .result) (r .repair .ensures)
+    (c .before .n .given .0 .0) (c .before .n .given .1) in
+    omega (arith, k .1, r .repair .kept .1 .0)
+
+slice-reshare-prefix-fed-alike : tie.Need-slice-reshare-prefix-fed-alike
+slice-reshare-prefix-fed-alike c = within c
+
+slice-aggregate-fed-alike : tie.Need-slice-aggregate-fed-alike
+slice-aggregate-fed-alike c = sym (length-take-le _ _ (within (c .before)))
+
+fed-alike-requires : tie.Need-fed-alike-requires
+fed-alike-requires c κs =
+    let n = c .before .before .before .before .before .before in
+    let r = n .before .before .before .before in
+    let a = r .before .before .before .before .before .before .before .before .before .args in
+    repair-wrote (a .text .now) (a .whole .now) (r .repair .ensures) (n .n .given .0 .0) (n .n .given .1)
+
+enum-told : tie.Need-enum-told
+enum-told c = search needs
+
+same-length : tie.Need-same-length
+same-length c = search needs
+
+same-length-2 : tie.Need-same-length-2
+same-length-2 c = search needs
+
+same-length-3 : tie.Need-same-length-3
+same-length-3 c = search needs
+
+same-length-4 : tie.Need-same-length-4
+same-length-4 c = search needs
+
+same-length-5 : tie.Need-same-length-5
+same-length-5 c = search needs
+
+returns : tie.Need-returns
+returns c =
+    let f = c .before .before .before .before .before .before .before .before in
+    let n = f .before .before .before .before .before .before .before in
+    let r = n .before .before .before .before in
+    let a = r .before .before .before .before .before .before .before .before .before .args in
+    record {
+      yes = f .fed-alike .ensures .yes;
+      buffers = leaves-granted (a .room) (a .text .now) (a .cuts .now) (a .whole .now) (a .once .now) (a .once-list .now) (a .parts .now) (a .parts-list .now)
+          (r .repair .ensures) (n .n .given .0 .0) (n .n .given .1) (f .fed-alike .ensures .buffers);
+    }
+
+same-length-6 : tie.Need-same-length-6
+same-length-6 c = search needs
+
+returns-2 : tie.Need-returns-2
+returns-2 c =
+    let r = c .before .before .before .before in
+    let a = r .before .before .before .before .before .before .before .before .before .args in
+    record {
+      yes = refl;
+      buffers = leaves-refused (a .room) (a .text .now) (a .cuts .now) (a .whole .now) (a .once .now) (a .once-list .now) (a .parts .now) (a .parts-list .now)
+          (r .repair .ensures) (c .enum-told .given .0 .0) (c .enum-told .given .1);
+    }
+
+pub pieces-spec : {M : Type 1} → statement M
+pieces-spec =
+    tie.close
+    (tie.spec
+    repair-requires
+    enum-known-n
+    slice-reshare-prefix-fed-alike
+    slice-aggregate-fed-alike
+    fed-alike-requires
+    enum-told
+    same-length
+    same-length-2
+    same-length-3
+    same-length-4
+    same-length-5
+    returns
+    same-length-6
+    returns-2)

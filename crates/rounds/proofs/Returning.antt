@@ -1,0 +1,108 @@
+-- There and back: what a strict conversion wrote, and that the way back gives the text.
+-- Assumes nothing.
+use mathlib.Core.Path.{_≡_, refl, sym, ap, subst, _∙_}
+use Prim.Native.Nat.{ℕ, _≤_}
+use mathlib.Core.Bool.{Bool, true, false, cond}
+use mathlib.Core.List.{List, [], _∷_, _++_}
+use lib.ListN.{length, getD, take, drop}
+use lib.Seq.{take-at}
+use lib.Dec.{eqb}
+use Rattle.division.specs.Table.{Kind}
+use Rattle.division.specs.Tally.{Entry}
+use Rattle.terms.specs.Form.{Form, converted}
+use Rattle.terms.specs.Told.{written, ifGranted}
+use Rattle.terms.specs.Writing.{outputOf, Writes, convertSays}
+use Rattle.terms.specs.declared.Refusal.{Refusal}
+use Rattle.terms.specs.declared.Written.{Written}
+use Rattle.terms.specs.declared.Written.the-variants.{Count, Refused}
+use Rattle.terms.proofs.Converting.{Refuses, Granted, granted-says, says-granted, there-and-back}
+use Rattle.terms.proofs.Forms.{Faithful}
+use Rattle.terms.proofs.Telling.{no-zero}
+use Rattle.comparing.specs.Equal.{equal}
+use Rattle.rounds.specs.Rounds.{Back, Round}
+use Rattle.comparing.proofs.Comparing.{equal-same}
+
+-- a strict conversion that was called
+module _ (refuse : Entry Kind → List ℕ) (F G : Form) (text out : List ℕ) {out′ : List ℕ} {r : Written}
+    (w : Writes (convertSays refuse F G (length out) text) (converted F G text) out out′ r) where
+  abbrev says : List ℕ
+  says = convertSays refuse F G (length out) text
+
+  -- it refused
+  refused-says : (q : Refusal) → r ≡ Refused q → eqb (getD says 0 0) 0 ≡ false
+  refused-says q e = ap (λ (l : List ℕ). eqb (getD l 0 0) 0) (sym (w .answer) ∙ ap written e) ∙ no-zero q
+
+  -- or it granted, and wrote so many places
+  module _ (refuses : Refuses refuse) (n : ℕ) (e : r ≡ Count n) where
+    count-says : says ≡ 0 ∷ n ∷ []
+    count-says = sym (w .answer) ∙ ap written e
+
+    passed : Granted F G (length out) text
+    passed = says-granted refuse F G (length out) text refuses count-says
+
+    count-is : n ≡ length (converted F G text)
+    count-is =
+        let s : says ≡ 0 ∷ length (converted F G text) ∷ [] = granted-says refuse F G (length out) text passed in
+        ap (λ (l : List ℕ). getD l 1 0) (sym count-says ∙ s)
+
+    pub count-fits : n ≤ length out
+    count-fits = rw count-is (passed .fits)
+
+    pub count-wrote : take n out′ ≡ converted F G text
+    count-wrote =
+        let o : out′ ≡ converted F G text ++ drop (length (converted F G text)) out
+        = w .output ∙ ap (λ (l : List ℕ). outputOf l (converted F G text) out) count-says in
+        ap (take n) o ∙ take-at (converted F G text) (drop (length (converted F G text)) out) n (sym count-is)
+
+-- THE WAY BACK
+module _ (refuse : Entry Kind → List ℕ) (G F : Form) (text between back : List ℕ) {back′ : List ℕ} {r : Written}
+    (w : Writes (convertSays refuse G F (length back) between) (converted G F between) back back′ r) where
+  pub back-granted : Refuses refuse → (n : ℕ) → r ≡ Count n → (b : Bool) → b ≡ equal text (take n back′) → Back refuse G F text between back back′ b
+  back-granted refuses n e b h = record {
+    answer =
+        h
+        ∙ ap (equal text) (count-wrote refuse G F between back w refuses n e)
+        ∙ sym (ap (λ (l : List ℕ). ifGranted l (equal text (converted G F between)) true) (count-says refuse G F between back w refuses n e));
+    returned = w .output;
+  }
+
+  pub back-refused : (q : Refusal) → r ≡ Refused q → Back refuse G F text between back back′ true
+  back-refused q e = record {
+    answer = sym (ap (λ (b : Bool). cond b (equal text (converted G F between)) true) (refused-says refuse G F between back w q e));
+    returned = w .output;
+  }
+
+-- THERE AND BACK
+module _ (refuse refuse′ : Entry Kind → List ℕ) (F G : Form) (text between : List ℕ) {between′ : List ℕ} {r : Written}
+    (w : Writes (convertSays refuse F G (length between) text) (converted F G text) between between′ r) where
+  pub round-refused : (back : List ℕ) (q : Refusal) → r ≡ Refused q → Round refuse refuse′ F G text between back between′ back true
+  round-refused back q e = record {
+    yes = refl;
+    there = w .output;
+    returned = rw (refused-says refuse F G text between w q e);
+  }
+
+  pub round-granted : Faithful F → Faithful G → Refuses refuse → (n : ℕ) → r ≡ Count n → (back back′ : List ℕ) (b : Bool)
+      → Back refuse′ G F text (take n between′) back back′ b → Round refuse refuse′ F G text between back between′ back′ b
+  round-granted f g refuses n e back back′ b h =
+      let form : List ℕ = converted F G text in
+      let says′ : List ℕ = convertSays refuse′ G F (length back) form in
+      let same : converted G F form ≡ text = there-and-back f g text (passed refuse F G text between w refuses n e .clean) in
+      let k : Back refuse′ G F text form back back′ b
+      = subst (λ (l : List ℕ). Back refuse′ G F text l back back′ b) (count-wrote refuse F G text between w refuses n e) h in
+      record {
+        yes =
+            k .answer
+            ∙ ap (λ (l : List ℕ). ifGranted says′ (equal text l) true) same
+            ∙ ap (λ (c : Bool). ifGranted says′ c true) (equal-same text)
+            ∙ either (eqb (getD says′ 0 0) 0);
+        there = w .output;
+        returned =
+            k .returned
+            ∙ ap (λ (l : List ℕ). outputOf says′ l back) same
+            ∙ sym (ap (λ (l : List ℕ). ifGranted l (outputOf says′ text back) back) (count-says refuse F G text between w refuses n e));
+      }
+    where
+      either : (b : Bool) → cond b true true ≡ true
+      either true = refl
+      either false = refl
