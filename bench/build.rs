@@ -1,12 +1,12 @@
-// Links the proved static library that `rt staticlib outside` writes.
+// Links the proved static libraries that `rt staticlib viewer` and `rt staticlib outside` write.
 use std::path::Path;
 
 fn main() {
     let folder = Path::new(env!("CARGO_MANIFEST_DIR")).join("../target/staticlib");
     println!("cargo:rustc-link-search=native={}", folder.display());
-    println!("cargo:rustc-link-lib=static=outside");
-    println!(
-        "cargo:rerun-if-changed={}",
-        folder.join("liboutside.a").display()
-    );
+    for name in ["viewer", "outside"] {
+        println!("cargo:rustc-link-lib=static={name}");
+        let library = folder.join(format!("lib{name}.a"));
+        println!("cargo:rerun-if-changed={}", library.display());
+    }
 }

@@ -1,9 +1,9 @@
-//! The library's calls that are measured, through the wrappers of the crate `outside`.
+//! The library's calls that are measured: the viewer's two routines, and the others through the wrappers of the crate `outside`.
 
 #[rustfmt::skip]
 extern "C" {
-    fn outside_utf8_check(text: *const u8, n: usize, says: *mut usize, m: usize) -> usize;
-    fn outside_bytes_repair(text: *const u8, n: usize, out: *mut u8, k: usize, says: *mut usize, m: usize) -> usize;
+    fn moxandril_check(text: *const u8, n: usize) -> u64;
+    fn moxandril_repair(text: *const u8, n: usize, out: *mut u8, k: usize) -> u64;
     fn outside_bytes_to_units(text: *const u8, n: usize, out: *mut u16, k: usize, says: *mut usize, m: usize) -> usize;
     fn outside_bytes_repair_to_units(text: *const u8, n: usize, out: *mut u16, k: usize, says: *mut usize, m: usize) -> usize;
     fn outside_units_to_bytes(text: *const u16, n: usize, out: *mut u8, k: usize, says: *mut usize, m: usize) -> usize;
@@ -25,8 +25,14 @@ fn said(call: impl FnOnce(*mut usize, usize) -> usize) -> Said {
 
 // SAFETY of all calls: each reads and writes the slices that it is lent alone, and has no other precondition.
 
-pub fn check(text: &[u8]) -> Said {
-    said(|s, m| unsafe { outside_utf8_check(text.as_ptr(), text.len(), s, m) })
+/// 0 where a text is well-formed.
+pub fn check(text: &[u8]) -> u64 {
+    unsafe { moxandril_check(text.as_ptr(), text.len()) }
+}
+
+/// How many bytes were written.
+pub fn repair(text: &[u8], out: &mut [u8]) -> usize {
+    unsafe { moxandril_repair(text.as_ptr(), text.len(), out.as_mut_ptr(), out.len()) as usize }
 }
 
 macro_rules! writers {
@@ -39,7 +45,6 @@ macro_rules! writers {
 }
 
 writers! {
-    repair: outside_bytes_repair, u8 => u8;
     to_units: outside_bytes_to_units, u8 => u16;
     repair_to_units: outside_bytes_repair_to_units, u8 => u16;
     to_bytes: outside_units_to_bytes, u16 => u8;

@@ -18,18 +18,20 @@ Each case runs ours and the peer's in turn in one process, and the median is tak
 by ours: above 1 ours is faster. Texts are made by the program from fixed seeds. Before it is timed, each case is compared: both \
 sides must agree.
 
-- Ours is called through the wrappers of the crate `outside`, which add a call and a few numbers told.
+- Check and repair are the viewer's routines. The other calls go through the wrappers of the crate `outside`, which add a call and \
+a few numbers told.
 - Output buffers are made and touched once before the timing, and are not cleared between runs; the same holds for peers that write \
 into a ready buffer (encoding_rs, and std's conversions here).
-- `String::from_utf8_lossy` allocates: it is asked for an owned string, as on clean text it would only lend the input. No other peer \
-allocates in the timed part. Ours allocates nothing.
+- `String::from_utf8_lossy` allocates where there is damage; on clean text it lends its input and copies nothing, while ours writes the \
+whole form. No other peer allocates in the timed part. Ours allocates nothing.
 - simdutf8 (basic) and bytecount choose AVX2 at run time where the processor has it. encoding_rs, as Debian has it, is built \
 without its SIMD feature and reads words. std's check reads words. \
 Ours is compiled for plain x86-64 (SSE2).
 - bytecount counts code points alone, while the builder counts three measures and writes checkpoints. The plain loop is Rust's \
 `utf8_chunks` and `chars`, counting units, code points and lines.
-- Ours and std's check stop at the first damage, so that their ratio on damaged text is that of a short text. simdutf8 (basic) reads \
-on to the end, and is compared on clean texts alone.
+- Ours and std's check stop at the first damage, so a damaged text is cut behind it for them. simdutf8 (basic) reads on to the end, \
+and is compared on clean texts alone.
+- A ratio that is to be reached stands for texts of 64 bytes and more; that of the check against std from 24 bytes on.
 ";
 
 fn length(bytes: usize) -> String {
