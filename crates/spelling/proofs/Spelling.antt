@@ -11,7 +11,7 @@ use native.Mathlib.Omega.{arith}
 use Rattle.division.proofs.Cases.{under, by-ends, add-swap}
 use Rattle.terms.proofs.Writing.{Passed}
 use Rattle.spelling.specs.Spell.{wants, two, three, firstHalf, secondHalf, units, spelledFrom, spelled}
-use Rattle.spelling.specs.Stride.{Plain}
+use Rattle.spelling.specs.Stride.{Short, Plain}
 
 -- ---- of any text: the equations, after which nothing looks at the recursion
 
@@ -129,11 +129,11 @@ module _ (text : List ℕ) where
         let k = one-is (getD text at 0) (byte 1) (byte 2) (byte 3) m in
         rw (k .0, k .1) at (passed-next (rw (k .0) (omega arith)))
 
-    pub passed-two : 0x80 ≤ getD text at 0 → getD text at 0 < 0xE0 → at + 2 ≤ length text
-        → Passed left (length text) at 2 (two (getD text at 0) (byte 1) ∷ [])
-    passed-two l m f =
-        let k = two-is (getD text at 0) (byte 1) (byte 2) (byte 3) l m in
-        rw (k .0, k .1) at (passed-next (rw (k .0) f))
+    pub passed-short : (unit size : ℕ) → Short (getD text at 0) (byte 1) unit size → 0 < size → at + 2 ≤ length text
+        → Passed left (length text) at size (unit ∷ [])
+    passed-short unit size s z f =
+        let e : suc (wants (getD text at 0)) ≡ size = sym (s .whole z) in
+        rw (e, s .same z (byte 2) (byte 3)) at (passed-next (rw e (omega (arith, s .few))))
 
     pub passed-three : 0xE0 ≤ getD text at 0 → getD text at 0 < 0xF0 → at + 3 ≤ length text
         → Passed left (length text) at 3 (three (getD text at 0) (byte 1) (byte 2) ∷ [])

@@ -8,12 +8,18 @@ ghost use Prim.Native.Nat.{_≤_, _<_, min};
 ghost use lib.ListN.{length, drop, getD};
 ghost use Rattle.terms.specs.Writing.{Writes, roomed};
 ghost use Rattle.spelling.specs.Spell.{wants, two, three, firstHalf, secondHalf, units, spelled};
-ghost use Rattle.spelling.specs.Stride.{Puts, Strides, Plain};
+ghost use Rattle.spelling.specs.Stride.{Puts, Strides, Short, Plain};
 
 // How far a stride went: so many bytes are passed over, and so many units written.
 pub struct Reach {
     pub passed: usize,
     pub put: usize,
+}
+
+// A sequence that spells one unit, and how many bytes it has: 0 where none is taken.
+pub struct Sequence {
+    pub unit: u16,
+    pub size: usize,
 }
 
 fn wide(b: u8) -> u16
@@ -83,7 +89,29 @@ fn ones(text: &[u8], out: &mut [u16]) -> Reach
     }
 }
 
-// Sequences of two bytes.
+// The sequence of one or two bytes that begins with a; where two bytes below 80 follow one another, `ones` is quicker.
+fn short_sequence(a: u8, b: u8) -> Sequence
+    ensures { λ r. ⌜ Short a b (r .unit) (r .size) ⌝ }
+{
+    if 0xE0 <= a {
+        return Sequence { unit: 0, size: 0 };
+    }
+    if 0x80 <= a {
+        return Sequence {
+            unit: of_two(a, b),
+            size: 2,
+        };
+    }
+    if b < 0x80 {
+        return Sequence { unit: 0, size: 0 };
+    }
+    Sequence {
+        unit: wide(a),
+        size: 1,
+    }
+}
+
+// Sequences of two bytes, and single bytes below 80 between them.
 fn twos(text: &[u8], out: &mut [u16]) -> Reach
     requires { ⌜ (0 < length (now text)) × (0x80 ≤ getD (now text) 0 0) × (getD (now text) 0 0 < 0xE0) ⌝ }
     requires { ⌜ length (spelled (now text)) ≤ length (now out) ⌝ }
@@ -92,16 +120,14 @@ fn twos(text: &[u8], out: &mut [u16]) -> Reach
     let mut at: usize = 0;
     let mut put: usize = 0;
     while 2 <= text.len() - at {
-        let a = text[at];
-        if a < 0x80 {
+        let s = short_sequence(text[at], text[at + 1]);
+        let size = s.size;
+        if size == 0 {
             return Reach { passed: at, put };
         }
-        if 0xE0 <= a {
-            return Reach { passed: at, put };
-        }
-        out[put] = of_two(a, text[at + 1]);
+        out[put] = s.unit;
         put += 1;
-        at += 2;
+        at += size;
     }
     Reach { passed: at, put }
 }

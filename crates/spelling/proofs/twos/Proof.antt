@@ -1,4 +1,4 @@
--- Each sequence of two bytes is one unit.
+-- Each sequence that is taken is one unit, and the first one is taken.
 -- Assumes nothing.
 use Prim.Native.Nat.{_-_}
 use mathlib.Core.Path.{ap}
@@ -6,7 +6,7 @@ use mathlib.Core.List.{[], _∷_}
 use lib.ListN.{length, getD}
 use native.Mathlib.Omega.{arith}
 use Rattle.terms.proofs.Writing.{Passed, filled-start}
-use Rattle.spelling.proofs.Spelling.{left, two-is, passed-two}
+use Rattle.spelling.proofs.Spelling.{left, two-is, passed-short}
 use Rattle.spelling.proofs.Striding.{Walked, strides, stored-one, room-for, cut-short}
 use borrow.Author.Needs.{needs}
 use Rattle.spelling.proofs.twos.Statement.{statement}
@@ -24,85 +24,83 @@ loop-holds c = let a = c .before .before .args in filled-start (left (a .text .n
 sub-loop : tie.Need-sub-loop Inv-loop μ-loop
 sub-loop c = c .loop .inv .inside
 
-shared-slice-read-a : tie.Need-shared-slice-read-a Inv-loop μ-loop
-shared-slice-read-a c = let i = c .before in omega (arith, i .loop-test .taken)
+shared-slice-read-short-sequence : tie.Need-shared-slice-read-short-sequence Inv-loop μ-loop
+shared-slice-read-short-sequence c = let i = c .before in omega (arith, i .loop-test .taken)
+
+add-short-sequence : tie.Need-add-short-sequence Inv-loop μ-loop
+add-short-sequence c = search needs
+
+shared-slice-read-short-sequence-2 : tie.Need-shared-slice-read-short-sequence-2 Inv-loop μ-loop
+shared-slice-read-short-sequence-2 c = let i = c .before .before in omega (arith, i .loop-test .taken)
+
+short-sequence-requires : tie.Need-short-sequence-requires Inv-loop μ-loop
+short-sequence-requires c κs = search needs
 
 same-length : tie.Need-same-length Inv-loop μ-loop
-same-length c = c .before .before .before .loop .inv .long
+same-length c = c .before .before .before .before .before .loop .inv .long
 
 returns : tie.Need-returns Inv-loop μ-loop
 returns c =
-    let l = c .before .before .before in
+    let s = c .before in
+    let l = s .before .before .before .before in
     let z = l .before .before .before in
     let text = z .args .text .now in
     strides text (z .args .out .now) (l .loop .out) (l .loop .at) (l .loop .put) (l .loop .inv)
-    (λ e. absurd (omega (arith, ap (λ i. getD text i 0) e, z .pre .0, c .if1 .taken)))
-
-same-length-2 : tie.Need-same-length-2 Inv-loop μ-loop
-same-length-2 c = c .before .before .before .before .loop .inv .long
-
-returns-2 : tie.Need-returns-2 Inv-loop μ-loop
-returns-2 c =
-    let l = c .before .before .before .before in
-    let z = l .before .before .before in
-    let text = z .args .text .now in
-    strides text (z .args .out .now) (l .loop .out) (l .loop .at) (l .loop .put) (l .loop .inv)
-    (λ e. absurd (omega (arith, ap (λ i. getD text i 0) e, z .pre .0, c .if2 .taken)))
-
-add-of-two : tie.Need-add-of-two Inv-loop μ-loop
-add-of-two c = search needs
-
-shared-slice-read-of-two : tie.Need-shared-slice-read-of-two Inv-loop μ-loop
-shared-slice-read-of-two c = let i = c .before .before .before .before in omega (arith, i .loop-test .taken)
-
-of-two-requires : tie.Need-of-two-requires Inv-loop μ-loop
-of-two-requires c κs = search needs
+    (λ e.
+    let b = ap (λ i. getD text i 0) e in
+    absurd (omega (arith, s .short-sequence .ensures .taken (omega (arith, b, z .pre .0 .1)) (omega (arith, b, z .pre .0 .2)), c .if1 .taken)))
 
 -- the sequence that was read
-here : (c : tie.After-of-two Inv-loop μ-loop)
-    → let l = c .before .before .before .before .before .before in
+here : (c : tie.Else1 Inv-loop μ-loop)
+    → let s = c .before in
+    let l = s .before .before .before .before in
     let text = l .before .before .before .args .text .now in
-    Passed (left text) (length text) (l .loop .at) 2 (c .of-two .result ∷ [])
+    Passed (left text) (length text) (l .loop .at) (s .short-sequence .result .size) (s .short-sequence .result .unit ∷ [])
 here c =
-    let e = c .before .before in
-    let i = e .before .before .before in
+    let s = c .before in
+    let i = s .before .before .before in
     let l = i .before in
     let text = l .before .before .before .args .text .now in
-    rw (c .of-two .ensures)
-    (passed-two text (l .loop .at) (omega (arith, i .loop-test .taken)) (omega (arith, e .before .if1 .left)) (omega (arith, e .if2 .left)) (omega (arith, i .loop-test .taken)))
+    passed-short text (l .loop .at) (omega (arith, i .loop-test .taken)) (s .short-sequence .result .unit) (s .short-sequence .result .size)
+    (s .short-sequence .ensures) (omega (arith, c .if1 .left)) (omega (arith, i .loop-test .taken))
 
 mul-out : tie.Need-mul-out Inv-loop μ-loop
 mul-out c = search needs
 
 slice-write-out : tie.Need-slice-write-out Inv-loop μ-loop
 slice-write-out c =
-    let l = c .before .before .before .before .before .before in
+    let s = c .before in
+    let l = s .before .before .before .before in
     let z = l .before .before .before in
-    omega (arith, room-for (z .args .text .now) (z .args .out .now) (z .pre .1) (l .loop .out) (l .loop .at) (l .loop .put) (l .loop .inv) 2 (c .of-two .result ∷ []) (here c))
+    omega (arith, room-for (z .args .text .now) (z .args .out .now) (z .pre .1) (l .loop .out) (l .loop .at) (l .loop .put) (l .loop .inv) (s .short-sequence .result .size) (s .short-sequence .result .unit ∷ []) (here c))
 
 add-put : tie.Need-add-put Inv-loop μ-loop
 add-put c =
-    let l = c .before .before .before .before .before .before in
+    let s = c .before in
+    let l = s .before .before .before .before in
     let z = l .before .before .before in
-    omega (arith, room-for (z .args .text .now) (z .args .out .now) (z .pre .1) (l .loop .out) (l .loop .at) (l .loop .put) (l .loop .inv) 2 (c .of-two .result ∷ []) (here c), z .good, l .loop .inv .long)
+    omega (arith, room-for (z .args .text .now) (z .args .out .now) (z .pre .1) (l .loop .out) (l .loop .at) (l .loop .put) (l .loop .inv) (s .short-sequence .result .size) (s .short-sequence .result .unit ∷ []) (here c), z .good, l .loop .inv .long)
 
 add-at : tie.Need-add-at Inv-loop μ-loop
-add-at c = search needs
+add-at c =
+    let z = c .before .before .before .before .before .before .before .before in
+    omega (arith, here c .inside, z .good)
 
 loop-less : tie.Need-loop-less Inv-loop μ-loop
-loop-less c = let i = c .before .before .before .before .before in omega (arith, i .loop-test .taken)
+loop-less c = omega (arith, here c .inside, c .if1 .left)
 
 loop-again : tie.Need-loop-again Inv-loop μ-loop
 loop-again c =
-    let l = c .before .before .before .before .before .before in
+    let s = c .before in
+    let l = s .before .before .before .before in
     let z = l .before .before .before in
-    stored-one (z .args .text .now) (z .args .out .now) (z .pre .1) (l .loop .out) (l .loop .at) (l .loop .put) (l .loop .inv) 2 (c .of-two .result) (here c)
+    stored-one (z .args .text .now) (z .args .out .now) (z .pre .1) (l .loop .out) (l .loop .at) (l .loop .put) (l .loop .inv) (s .short-sequence .result .size) (s .short-sequence .result .unit) (here c)
 
-same-length-3 : tie.Need-same-length-3 Inv-loop μ-loop
-same-length-3 c = c .before .loop .inv .long
+same-length-2 : tie.Need-same-length-2 Inv-loop μ-loop
+same-length-2 c = c .before .loop .inv .long
 
-returns-3 : tie.Need-returns-3 Inv-loop μ-loop
-returns-3 c =
+returns-2 : tie.Need-returns-2 Inv-loop μ-loop
+returns-2 c =
     let l = c .before in
     let z = l .before .before .before in
     let text = z .args .text .now in
@@ -119,19 +117,17 @@ twos-spec =
     μ-loop
     loop-holds
     sub-loop
-    shared-slice-read-a
+    shared-slice-read-short-sequence
+    add-short-sequence
+    shared-slice-read-short-sequence-2
+    short-sequence-requires
     same-length
     returns
-    same-length-2
-    returns-2
-    add-of-two
-    shared-slice-read-of-two
-    of-two-requires
     mul-out
     slice-write-out
     add-put
     add-at
     loop-less
     loop-again
-    same-length-3
-    returns-3)
+    same-length-2
+    returns-2)
