@@ -5,7 +5,7 @@ use Rattle.division.specs.Reader.{cutFrom, cut}
 use Rattle.utf8.specs.Bytes.{rows, bytes}
 use Rattle.utf16.specs.Units.{units}
 use Rattle.utf16.specs.Units as utf16
-use Rattle.examples.specs.Marked.{Marked}
+use Rattle.marked.specs.Marked.{Marked}
 
 pub marked : Marked
 unfolding cutFrom cut rows bytes utf16.rows units

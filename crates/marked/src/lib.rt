@@ -1,0 +1,1 @@
+// The marked examples, as one theorem about the definitions. There is no code.
