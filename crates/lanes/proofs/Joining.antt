@@ -1,15 +1,15 @@
 -- Bytes that stand well, one more or a block more, and what that says of the text.
 -- Assumes nothing.
 use Prim.Native.Nat.{ℕ, zero, suc, _+_, _-_, _<_, _≤_}
-use mathlib.Core.Path.{_≡_, refl, sym, ap, _∙_, subst}
+use mathlib.Core.Path.{_≡_, ap, _∙_, subst}
 use mathlib.Core.Bool.{true}
 use mathlib.Core.List.{List}
 use native.Mathlib.Omega.{arith}
 use borrow.Author.Count.{below-more}
 use borrow.Author.Tests.{lt-leb}
 use lib.Bits.{bitOr, or-add-and, and-le-l, and-le-r}
-use lib.ListN.{length, take, drop, getD, set, replicate, length-drop, length-set}
-use lib.Seq.{drop-drop, getD-drop, getD-set-same, getD-set-other, take-all}
+use lib.ListN.{length, take, drop, getD, length-drop}
+use lib.Seq.{drop-drop, getD-drop, take-all}
 use Rattle.division.proofs.Cases.{under}
 use Rattle.lanes.specs.Stands.{stands}
 use Rattle.lanes.specs.Blocks.{StandsIn, Stand, Below, padded, Good}
@@ -72,13 +72,13 @@ module _ (text : List ℕ) (at from n : ℕ) (g : Good text at) (some : 3 ≤ fr
       good-join (subst (λ (l : List ℕ). Stand l n) (take-all (length text - (from - 3)) (drop (from - 3) text) (omega (arith, length-drop (from - 3) text))) h)
 
 -- the last block of a text, over what is left
-pub good-last : (text : List ℕ) (at : ℕ) → Good text at → 131 ≤ length text → length text - at < 128
-    → Stand (take (length text - (length text - 131)) (drop (length text - 131) text)) 128 → Good text (length text)
+pub good-last : (text : List ℕ) (at : ℕ) → Good text at → 19 ≤ length text → length text ≤ at + 16
+    → Stand (take (length text - (length text - 19)) (drop (length text - 19) text)) 16 → Good text (length text)
 good-last text at g l b h =
-    let e : length text - 131 ≡ (length text - 128) - 3 = omega arith in
+    let e : length text - 19 ≡ (length text - 16) - 3 = omega arith in
     subst (Good text) (omega arith)
-    (good-part text at (length text - 128) 128 g (omega arith) (omega (arith, g .inside)) (omega arith)
-    (subst (λ (k : ℕ). Stand (take (length text - k) (drop k text)) 128) e h))
+    (good-part text at (length text - 16) 16 g (omega arith) (omega (arith, g .inside)) (omega arith)
+    (subst (λ (k : ℕ). Stand (take (length text - k) (drop k text)) 16) e h))
 
 -- ---- the first three bytes
 
@@ -91,44 +91,6 @@ good-first text h a b c = record { inside = h; stand = go }
     go (suc zero) l = b
     go (suc (suc zero)) l = c
     go (suc (suc (suc k))) l = absurd (omega arith)
-
--- ---- a text in a block of its own, behind three zeros
-
-pub record Copied (b text : List ℕ) (n : ℕ) : Type 0 where
-  pub long : length b ≡ 131
-  pub same : (i : ℕ) → i < 3 + n → getD b i 0 ≡ getD (padded text) i 0
-
-pub copied-none : (text : List ℕ) → Copied (replicate 131 0) text 0
-copied-none text = record { long = refl; same = go }
-  where
-    go : (i : ℕ) → i < 3 + 0 → getD (replicate 131 0) i 0 ≡ getD (padded text) i 0
-    go zero l = refl
-    go (suc zero) l = refl
-    go (suc (suc zero)) l = refl
-    go (suc (suc (suc i))) l = absurd (omega arith)
-
-pub copied-more : (b text : List ℕ) (n : ℕ) → Copied b text n → n < 128 → Copied (set b (n + 3) (getD text n 0)) text (n + 1)
-copied-more b text n c h = record {
-  long = length-set b (n + 3) (getD text n 0) ∙ c .long;
-  same = λ i l. under i (3 + n)
-      (λ k. getD-set-other b (n + 3) i (getD text n 0) 0 (λ e. omega arith) ∙ c .same i k)
-      (λ k.
-      let e : i ≡ n + 3 = omega arith in
-      let f : 3 + n ≡ i = omega arith in
-      ap (λ (j : ℕ). getD (set b (n + 3) (getD text n 0)) j 0) e
-      ∙ getD-set-same b (n + 3) (getD text n 0) 0 (omega (arith, c .long))
-      ∙ getD-drop 3 (padded text) n 0
-      ∙ ap (λ (j : ℕ). getD (padded text) j 0) f);
-}
-
-pub copied-good : (b text : List ℕ) (m n : ℕ) → Copied b text m → m ≤ length text → n ≤ m → Stand b n → Good text n
-copied-good b text m n c inside less h = record { inside = omega arith; stand = λ k l. go k l (h k l) }
-  where
-    same : (k i : ℕ) → k < n → i ≤ 3 → getD (drop k b) i 0 ≡ getD (drop k (padded text)) i 0
-    same k i l j = getD-drop k b i 0 ∙ c .same (k + i) (omega arith) ∙ sym (getD-drop k (padded text) i 0)
-
-    go : (k : ℕ) → k < n → StandsIn (drop k b) → StandsIn (drop k (padded text))
-    go k l s = rw (same k 0 l (omega arith), same k 1 l (omega arith), same k 2 l (omega arith), same k 3 l (omega arith)) at s
 
 -- ---- bytes below 80 at the start of a text
 
@@ -162,10 +124,3 @@ pub below-last : (text : List ℕ) (at n bound : ℕ) → Below text at bound �
 below-last text at n bound p inside near q =
     subst (λ (k : ℕ). Below text k bound) (omega arith)
     (below-part text (length text - n) n bound (λ k l. p k (omega arith)) q)
-
--- a block behind a block
-pub stand-part : (t : List ℕ) (m n : ℕ) → Stand t m → Stand (take (length t - m) (drop m t)) n → Stand t (m + n)
-stand-part t m n p q k l = under k m (p k) (λ h.
-    let e : drop (k - m) (take (length t - m) (drop m t)) ≡ drop k t =
-    ap (λ (l : List ℕ). drop (k - m) l) (take-all (length t - m) (drop m t) (omega (arith, length-drop m t))) ∙ drops t (k - m) m k (omega arith) in
-    subst StandsIn e (q (k - m) (omega arith)))

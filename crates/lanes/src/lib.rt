@@ -2,7 +2,7 @@
 // arithmetic that a compiler turns into vector instructions.
 ghost use mathlib.Core.Path.{_≡_};
 ghost use mathlib.Core.Bool.{true, _&&_, _||_, cond};
-ghost use Prim.Native.Nat.{ℕ, suc, min, _-_, _<_, _≤_};
+ghost use Prim.Native.Nat.{ℕ, suc, _-_, _<_, _≤_};
 ghost use lib.ListN.{length};
 ghost use lib.Dec.{leb, ltb};
 ghost use Rattle.lanes.specs.Stands.{later, lowOf, highOf, second, stands, standing, before, waitingAt};
@@ -131,8 +131,8 @@ fn right_four(t: &[u8]) -> bool
     e < 0x80
 }
 
-// The same, by the quickest of the three.
-fn right(t: &[u8]) -> bool
+// The same, by the quickest of the three; not by the slowest where only low bytes are asked for.
+fn right(t: &[u8], low: bool) -> bool
     requires { ⌜ 131 ≤ length (now t) ⌝ }
     ensures { λ r. ⌜ (r ≡ true → Stand (now (t .entry)) 128) ⌝ }
 {
@@ -145,6 +145,9 @@ fn right(t: &[u8]) -> bool
     }
     if m < 0xF0 {
         return right_three(t);
+    }
+    if low {
+        return false;
     }
     right_four(t)
 }
@@ -162,13 +165,13 @@ fn place(e: u8, k: u8) -> u8
     if e < 0x80 { 255 } else { k }
 }
 
-// So many of the 128 bytes behind the first three stand well. There may be more.
+// So many of the 16 bytes behind the first three stand well. There may be more.
 fn right_to(t: &[u8]) -> usize
-    requires { ⌜ 131 ≤ length (now t) ⌝ }
-    ensures { λ r. ⌜ (r ≤ 128) × Stand (now (t .entry)) r ⌝ }
+    requires { ⌜ 19 ≤ length (now t) ⌝ }
+    ensures { λ r. ⌜ (r ≤ 16) × Stand (now (t .entry)) r ⌝ }
 {
-    let mut m: u8 = 128;
-    for k in 0..128 {
+    let mut m: u8 = 16;
+    for k in 0..16 {
         let e = lane_four(t[k], t[k + 1], t[k + 2], t[k + 3]);
         let at = (k % 256) as u8;
         m = smaller(m, place(e, at));
@@ -176,85 +179,70 @@ fn right_to(t: &[u8]) -> usize
     m as usize
 }
 
-// Do the first three bytes of a text stand well?
-fn right_first(text: &[u8]) -> bool
-    requires { ⌜ 3 ≤ length (now text) ⌝ }
-    ensures { λ r. ⌜ (r ≡ true → Good (now (text .entry)) 3) ⌝ }
+// So many bytes of a text stand well, from a place up to which it does, by blocks of 128. There may be more.
+fn wide_blocks(text: &[u8], from: usize, low: bool) -> usize
+    requires { ⌜ (3 ≤ from) × Good (now text) from ⌝ }
+    ensures { λ r. ⌜ (3 ≤ r) × Good (now (text .entry)) r ⌝ }
 {
-    let e = lane_four(0, 0, 0, text[0])
-        | lane_four(0, 0, text[0], text[1])
-        | lane_four(0, text[0], text[1], text[2]);
-    e < 0x80
-}
-
-// How far a text stands well, by whole blocks and in the block that does not.
-fn blocks(text: &[u8]) -> usize
-    requires { ⌜ Good (now text) 3 ⌝ }
-    ensures { λ r. ⌜ Good (now (text .entry)) r ⌝ }
-{
-    let mut at = 3;
+    let mut at = from;
     while 128 <= text.len() - at {
         let a = at - 3;
-        let t = &text[a..];
-        if !right(t) {
-            return at + right_to(t);
+        if !right(&text[a..], low) {
+            return at;
         }
         at += 128;
     }
     at
 }
 
-// Does each of the 32 bytes behind the first three stand well?
-fn right_narrow(t: &[u8]) -> bool
-    requires { ⌜ 35 ≤ length (now t) ⌝ }
-    ensures { λ r. ⌜ (r ≡ true → Stand (now (t .entry)) 32) ⌝ }
+// The same by blocks of 16, as far as a bound.
+fn slim_blocks(text: &[u8], from: usize, bound: usize) -> usize
+    requires { ⌜ (3 ≤ from) × Good (now text) from ⌝ }
+    ensures { λ r. ⌜ (3 ≤ r) × Good (now (text .entry)) r ⌝ }
 {
-    let mut e: u8 = 0;
-    for k in 0..32 {
-        e |= lane_four(t[k], t[k + 1], t[k + 2], t[k + 3]);
+    let mut at = from;
+    while 16 <= text.len() - at {
+        if bound <= at {
+            return at;
+        }
+        let a = at - 3;
+        let n = right_to(&text[a..]);
+        if n < 16 {
+            return at + n;
+        }
+        at += 16;
     }
-    e < 0x80
+    at
 }
 
-// So many of the m bytes behind the first three stand well, by one narrow block or two. There may be more.
-fn narrow(t: &[u8], m: usize) -> usize
-    requires { ⌜ (131 ≤ length (now t)) × (m ≤ 64) ⌝ }
-    ensures { λ r. ⌜ (r ≤ m) × Stand (now (t .entry)) r ⌝ }
-{
-    if !right_narrow(t) {
-        return 0;
-    }
-    if m <= 32 {
-        return m;
-    }
-    if !right_narrow(&t[32..]) {
-        return 32;
-    }
-    m
-}
-
-fn lower(a: usize, b: usize) -> usize
-    ensures { λ r. ⌜ r ≡ min a b ⌝ }
-{
-    if a < b { a } else { b }
-}
-
-// So many bytes at the start of a text stand well, by one block that starts with the text.
-fn first_block(text: &[u8]) -> usize
+// The same, by wide blocks, where the slow test waits for some slim ones: damage may be near.
+fn wider(text: &[u8], from: usize) -> usize
+    requires { ⌜ (3 ≤ from) × Good (now text) from ⌝ }
     ensures { λ r. ⌜ Good (now (text .entry)) r ⌝ }
 {
-    let m = lower(text.len(), 128);
-    let mut b = [0u8; 131];
-    for k in 0..m {
-        b[k + 3] = text[k];
+    let low = wide_blocks(text, from, true);
+    let near = slim_blocks(text, low, low + 256);
+    if near < low + 256 {
+        return near;
     }
-    if m <= 64 {
-        return narrow(&b, m);
+    let far = wide_blocks(text, near, false);
+    slim_blocks(text, far, text.len())
+}
+
+// The same for a text of 19 bytes or more, with a last block over what is left.
+fn shrinking(text: &[u8], from: usize) -> usize
+    requires { ⌜ (3 ≤ from) × Good (now text) from × (19 ≤ length (now text)) ⌝ }
+    ensures { λ r. ⌜ Good (now (text .entry)) r ⌝ }
+{
+    let n = text.len();
+    let far = wider(text, from);
+    if n - far < 16 {
+        let a = n - 19;
+        if right_to(&text[a..]) == 16 {
+            return n;
+        }
     }
-    if right(&b) {
-        return m;
-    }
-    lower(right_to(&b), m)
+    far
 }
 
 // Are the first 64 bytes of a text all below 0x80?
@@ -295,11 +283,14 @@ fn plain_start(text: &[u8]) -> usize
     at
 }
 
-// The same, by narrow blocks behind the wide ones.
+// The same, and by narrow blocks behind the wide ones where none of these stopped it.
 fn plain(text: &[u8]) -> usize
     ensures { λ r. ⌜ (r ≤ length (now (text .entry))) × Below (now (text .entry)) r 0x80 ⌝ }
 {
     let mut at = plain_start(text);
+    if 64 <= text.len() - at {
+        return at;
+    }
     while 16 <= text.len() - at {
         if !plain_narrow(&text[at..]) {
             return at;
@@ -323,41 +314,6 @@ fn plain_all(text: &[u8]) -> usize
         }
     }
     at
-}
-
-// So many bytes at the start of a text of fewer than 131 stand well. There may be more.
-fn short(text: &[u8]) -> usize
-    ensures { λ r. ⌜ Good (now (text .entry)) r ⌝ }
-{
-    if text.len() < 16 {
-        return 0;
-    }
-    let n = plain_all(text);
-    if text.len() - n < 16 {
-        return n;
-    }
-    first_block(text)
-}
-
-// The same for any text.
-fn long(text: &[u8]) -> usize
-    ensures { λ r. ⌜ Good (now (text .entry)) r ⌝ }
-{
-    let n = text.len();
-    if n < 131 {
-        return short(text);
-    }
-    if !right_first(text) {
-        return 0;
-    }
-    let e = blocks(text);
-    if n - e < 128 {
-        let a = n - 131;
-        if right(&text[a..]) {
-            return n;
-        }
-    }
-    e
 }
 
 fn low_of(b: u8) -> u8
@@ -405,6 +361,43 @@ fn stand(b3: u8, b2: u8, b1: u8, b0: u8) -> bool
     !found
 }
 
+// Do the first three bytes of a text stand well?
+fn right_first(text: &[u8]) -> bool
+    requires { ⌜ 3 ≤ length (now text) ⌝ }
+    ensures { λ r. ⌜ (r ≡ true → Good (now (text .entry)) 3) ⌝ }
+{
+    let a = text[0];
+    let b = text[1];
+    if !stand(0, 0, 0, a) {
+        return false;
+    }
+    if !stand(0, 0, a, b) {
+        return false;
+    }
+    stand(0, a, b, text[2])
+}
+
+// So many bytes at the start of a text stand well. There may be more.
+fn sure(text: &[u8]) -> usize
+    ensures { λ r. ⌜ Good (now (text .entry)) r ⌝ }
+{
+    let n = text.len();
+    if n < 19 {
+        return 0;
+    }
+    let at = plain_all(text);
+    if at == n {
+        return n;
+    }
+    if 3 <= at {
+        return shrinking(text, at);
+    }
+    if !right_first(text) {
+        return 0;
+    }
+    shrinking(text, 3)
+}
+
 // The byte that stands k before a place, and 0 where there is none.
 fn byte_before(text: &[u8], at: usize, k: usize) -> u8
     ensures { λ r. ⌜ r ≡ before (now (text .entry)) at k ⌝ }
@@ -445,7 +438,7 @@ fn onward(text: &[u8], from: usize) -> usize
 pub fn standing(text: &[u8]) -> usize
     ensures { λ r. ⌜ r ≡ standing (now (text .entry)) ⌝ }
 {
-    let from = long(text);
+    let from = sure(text);
     onward(text, from)
 }
 

@@ -19,8 +19,14 @@ abbrev μ-loop : tie.MeasureT-loop
 plain-start-requires : tie.Need-plain-start-requires Inv-loop μ-loop
 plain-start-requires c κs = search needs
 
+sub-if1 : tie.Need-sub-if1 Inv-loop μ-loop
+sub-if1 c = search needs
+
+returns : tie.Need-returns Inv-loop μ-loop
+returns c = c .before .plain-start .ensures
+
 loop-holds : tie.Need-loop-holds Inv-loop μ-loop
-loop-holds c = c .plain-start .ensures
+loop-holds c = c .before .plain-start .ensures
 
 sub-loop : tie.Need-sub-loop Inv-loop μ-loop
 sub-loop c = search needs
@@ -37,8 +43,8 @@ part-plain-narrow-end c = search needs
 plain-narrow-requires : tie.Need-plain-narrow-requires Inv-loop μ-loop
 plain-narrow-requires c κs = simp (length-take, length-drop) (omega arith)
 
-returns : tie.Need-returns Inv-loop μ-loop
-returns c = c .before .before .before .before .loop .inv
+returns-2 : tie.Need-returns-2 Inv-loop μ-loop
+returns-2 c = c .before .before .before .before .loop .inv
 
 add-at : tie.Need-add-at Inv-loop μ-loop
 add-at c = search needs
@@ -49,10 +55,11 @@ loop-less c = search needs
 loop-again : tie.Need-loop-again Inv-loop μ-loop
 loop-again c =
     let l = c .before .before .before .before in
-    (omega arith, below-part (l .before .before .before .args .text .now) (l .loop .at) 16 0x80 (l .loop .inv .1) (c .before .plain-narrow .ensures (not-false _ (c .if1 .left))))
+    let text = l .before .before .before .before .args .text .now in
+    (omega arith, below-part text (l .loop .at) 16 0x80 (l .loop .inv .1) (c .before .plain-narrow .ensures (not-false _ (c .if2 .left))))
 
-returns-2 : tie.Need-returns-2 Inv-loop μ-loop
-returns-2 c = c .before .loop .inv
+returns-3 : tie.Need-returns-3 Inv-loop μ-loop
+returns-3 c = c .before .loop .inv
 
 pub plain-spec : {M : Type 1} → statement M
 plain-spec =
@@ -61,14 +68,16 @@ plain-spec =
     Inv-loop
     μ-loop
     plain-start-requires
+    sub-if1
+    returns
     loop-holds
     sub-loop
     sub-plain-narrow
     part-plain-narrow-start
     part-plain-narrow-end
     plain-narrow-requires
-    returns
+    returns-2
     add-at
     loop-less
     loop-again
-    returns-2)
+    returns-3)

@@ -1,5 +1,7 @@
 -- `lanes::right` meets its contract: the largest byte says which test is enough.
 -- Assumes nothing.
+use mathlib.Core.Path.{sym}
+use mathlib.Core.Bool.{true≢false}
 use Rattle.lanes.proofs.Joining.{below-up, stand-plain}
 use borrow.Author.Needs.{needs}
 use Rattle.lanes.proofs.right.Statement.{statement}
@@ -29,11 +31,14 @@ right-three-requires c κs =
 returns-3 : tie.Need-returns-3
 returns-3 c = search needs
 
+returns-4 : tie.Need-returns-4
+returns-4 c = λ e. absurd (true≢false (sym e))
+
 right-four-requires : tie.Need-right-four-requires
 right-four-requires c κs = search needs
 
-returns-4 : tie.Need-returns-4
-returns-4 c = search needs
+returns-5 : tie.Need-returns-5
+returns-5 c = search needs
 
 pub right-spec : {M : Type 1} → statement M
 right-spec =
@@ -45,5 +50,6 @@ right-spec =
     returns-2
     right-three-requires
     returns-3
+    returns-4
     right-four-requires
-    returns-4)
+    returns-5)

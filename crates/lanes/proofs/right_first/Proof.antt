@@ -1,61 +1,56 @@
 -- `lanes::right_first` meets its contract, by the three tests.
 -- Assumes nothing.
-use borrow.Author.Tests.{ltb-true}
-use lib.Bits.{bitOr}
-use Rattle.lanes.proofs.Tests.{or-left, or-right}
-use Rattle.lanes.proofs.Joining.{good-first}
+use mathlib.Core.Path.{sym, _∙_}
+use mathlib.Core.Bool.{true≢false}
 use borrow.Author.Needs.{needs}
+use borrow.Author.Tests.{not-false}
+use Rattle.lanes.proofs.Joining.{good-first}
 use Rattle.lanes.proofs.right_first.Statement.{statement}
 use Rattle.lanes.proofs.right_first.Tie as tie
 
-shared-slice-read-lane-four : tie.Need-shared-slice-read-lane-four
-shared-slice-read-lane-four c = search needs
+shared-slice-read-a : tie.Need-shared-slice-read-a
+shared-slice-read-a c = search needs
 
-lane-four-requires : tie.Need-lane-four-requires
-lane-four-requires c κs = search needs
+shared-slice-read-b : tie.Need-shared-slice-read-b
+shared-slice-read-b c = search needs
 
-shared-slice-read-lane-four-2 : tie.Need-shared-slice-read-lane-four-2
-shared-slice-read-lane-four-2 c = search needs
-
-shared-slice-read-lane-four-3 : tie.Need-shared-slice-read-lane-four-3
-shared-slice-read-lane-four-3 c = search needs
-
-lane-four-requires-2 : tie.Need-lane-four-requires-2
-lane-four-requires-2 c κs = search needs
-
-shared-slice-read-lane-four-4 : tie.Need-shared-slice-read-lane-four-4
-shared-slice-read-lane-four-4 c = search needs
-
-shared-slice-read-lane-four-5 : tie.Need-shared-slice-read-lane-four-5
-shared-slice-read-lane-four-5 c = search needs
-
-shared-slice-read-lane-four-6 : tie.Need-shared-slice-read-lane-four-6
-shared-slice-read-lane-four-6 c = search needs
-
-lane-four-requires-3 : tie.Need-lane-four-requires-3
-lane-four-requires-3 c κs = search needs
+stand-requires : tie.Need-stand-requires
+stand-requires c κs = search needs
 
 returns : tie.Need-returns
-returns c = λ e.
-    let l₁ = c .before .before .before .before .before .before .before .lane-four in
-    let l₂ = c .before .before .before .before .lane-four2 in
-    let s = c .before .before .before .before .before .before .before .before .before .before .args .text .now in
-    let x = bitOr (l₁ .result) (l₂ .result) in
-    let h = ltb-true _ _ e in
-    let p = or-left x (c .lane-four3 .result) h in
-    good-first s (c .before .before .before .before .before .before .before .before .before .before .pre) (l₁ .ensures (or-left (l₁ .result) (l₂ .result) p)) (l₂ .ensures (or-right (l₁ .result) (l₂ .result) p)) (c .lane-four3 .ensures (or-right x (c .lane-four3 .result) h))
+returns c = λ e. absurd (true≢false (sym e))
+
+stand-requires-2 : tie.Need-stand-requires-2
+stand-requires-2 c κs = search needs
+
+returns-2 : tie.Need-returns-2
+returns-2 c = λ e. absurd (true≢false (sym e))
+
+shared-slice-read-stand : tie.Need-shared-slice-read-stand
+shared-slice-read-stand c = search needs
+
+stand-requires-3 : tie.Need-stand-requires-3
+stand-requires-3 c κs = search needs
+
+returns-3 : tie.Need-returns-3
+returns-3 c = λ e.
+    let f = c .before .before .before .before in
+    let s = f .before .before .before .before .before in
+    good-first (s .args .text .now) (s .pre)
+    (sym (f .before .stand .ensures) ∙ not-false _ (f .if1 .left))
+    (sym (c .before .before .before .stand2 .ensures) ∙ not-false _ (c .before .before .if2 .left))
+    (sym (c .stand3 .ensures) ∙ e)
 
 pub right-first-spec : {M : Type 1} → statement M
 right-first-spec =
     tie.close
     (tie.spec
-    shared-slice-read-lane-four
-    lane-four-requires
-    shared-slice-read-lane-four-2
-    shared-slice-read-lane-four-3
-    lane-four-requires-2
-    shared-slice-read-lane-four-4
-    shared-slice-read-lane-four-5
-    shared-slice-read-lane-four-6
-    lane-four-requires-3
-    returns)
+    shared-slice-read-a
+    shared-slice-read-b
+    stand-requires
+    returns
+    stand-requires-2
+    returns-2
+    shared-slice-read-stand
+    stand-requires-3
+    returns-3)

@@ -8,10 +8,10 @@ use Rattle.lanes.proofs.right_to.Statement.{statement}
 use Rattle.lanes.proofs.right_to.Tie as tie
 
 abbrev Inv-loop : tie.InvT-loop
-Inv-loop t m₀ k₀ m k = (k ≤ 128) × (m ≤ 128) × StandTo t k m
+Inv-loop t m₀ k₀ m k = (k ≤ 16) × (m ≤ 16) × StandTo t k m
 
 abbrev μ-loop : tie.MeasureT-loop
-μ-loop t m₀ k₀ m k = 128 - k
+μ-loop t m₀ k₀ m k = 16 - k
 
 loop-holds : tie.Need-loop-holds Inv-loop μ-loop
 loop-holds c = (omega arith, omega arith, λ j l. absurd (omega arith))

@@ -4,8 +4,8 @@ use borrow.Author.Needs.{needs}
 use Rattle.lanes.proofs.standing.Statement.{statement}
 use Rattle.lanes.proofs.standing.Tie as tie
 
-long-requires : tie.Need-long-requires
-long-requires c κs = search needs
+sure-requires : tie.Need-sure-requires
+sure-requires c κs = search needs
 
 onward-requires : tie.Need-onward-requires
 onward-requires c κs = search needs
@@ -17,6 +17,6 @@ pub standing-spec : {M : Type 1} → statement M
 standing-spec =
     tie.close
     (tie.spec
-    long-requires
+    sure-requires
     onward-requires
     returns)

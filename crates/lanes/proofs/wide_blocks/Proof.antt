@@ -1,4 +1,4 @@
--- `lanes::blocks` meets its contract: each block goes on where the text stood well so far.
+-- `lanes::wide_blocks` meets its contract: each block goes on where the text stood well so far.
 -- Assumes nothing.
 use borrow.Author.Needs.{needs}
 use Prim.Native.Nat.{_-_, _≤_}
@@ -7,17 +7,17 @@ use borrow.Author.Tests.{not-false}
 use lib.ListN.{length, length-take, length-drop}
 use Rattle.lanes.specs.Blocks.{Good}
 use Rattle.lanes.proofs.Joining.{good-part}
-use Rattle.lanes.proofs.blocks.Statement.{statement}
-use Rattle.lanes.proofs.blocks.Tie as tie
+use Rattle.lanes.proofs.wide_blocks.Statement.{statement}
+use Rattle.lanes.proofs.wide_blocks.Tie as tie
 
 abbrev Inv-loop : tie.InvT-loop
-Inv-loop text at₀ at = (3 ≤ at) × Good text at
+Inv-loop text from low at₀ at = (3 ≤ at) × Good text at
 
 abbrev μ-loop : tie.MeasureT-loop
-μ-loop text at₀ at = length text - at
+μ-loop text from low at₀ at = length text - at
 
 loop-holds : tie.Need-loop-holds Inv-loop μ-loop
-loop-holds c = (omega arith, c .before .pre)
+loop-holds c = c .before .pre
 
 sub-loop : tie.Need-sub-loop Inv-loop μ-loop
 sub-loop c = search needs
@@ -25,29 +25,20 @@ sub-loop c = search needs
 sub-a : tie.Need-sub-a Inv-loop μ-loop
 sub-a c = search needs
 
-sub-t : tie.Need-sub-t Inv-loop μ-loop
-sub-t c = search needs
+sub-right : tie.Need-sub-right Inv-loop μ-loop
+sub-right c = search needs
 
-part-t-start : tie.Need-part-t-start Inv-loop μ-loop
-part-t-start c = search needs
+part-right-start : tie.Need-part-right-start Inv-loop μ-loop
+part-right-start c = search needs
 
-part-t-end : tie.Need-part-t-end Inv-loop μ-loop
-part-t-end c = search needs
+part-right-end : tie.Need-part-right-end Inv-loop μ-loop
+part-right-end c = search needs
 
 right-requires : tie.Need-right-requires Inv-loop μ-loop
 right-requires c κs = simp (length-take, length-drop) (omega arith)
 
-right-to-requires : tie.Need-right-to-requires Inv-loop μ-loop
-right-to-requires c κs = simp (length-take, length-drop) (omega arith)
-
-add-result : tie.Need-add-result Inv-loop μ-loop
-add-result c = omega (arith, c .right-to .ensures .0)
-
 returns : tie.Need-returns Inv-loop μ-loop
-returns c =
-    let l = c .before .before .before .before .before in
-    good-part (l .before .before .args .text .now) (l .loop .at) (l .loop .at) (c .right-to .result) (l .loop .inv .1) (l .loop .inv .0) (omega arith)
-    (omega (arith, c .right-to .ensures .0)) (c .right-to .ensures .1)
+returns c = c .before .before .before .before .loop .inv
 
 add-at : tie.Need-add-at Inv-loop μ-loop
 add-at c = search needs
@@ -65,10 +56,10 @@ loop-again c =
     )
 
 returns-2 : tie.Need-returns-2 Inv-loop μ-loop
-returns-2 c = c .before .loop .inv .1
+returns-2 c = c .before .loop .inv
 
-pub blocks-spec : {M : Type 1} → statement M
-blocks-spec =
+pub wide-blocks-spec : {M : Type 1} → statement M
+wide-blocks-spec =
     tie.close
     (tie.spec
     Inv-loop
@@ -76,12 +67,10 @@ blocks-spec =
     loop-holds
     sub-loop
     sub-a
-    sub-t
-    part-t-start
-    part-t-end
+    sub-right
+    part-right-start
+    part-right-end
     right-requires
-    right-to-requires
-    add-result
     returns
     add-at
     loop-less
