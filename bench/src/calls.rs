@@ -1,4 +1,4 @@
-//! The library's calls that are measured: the viewer's two routines, and the others through the wrappers of the crate `outside`.
+//! The library's calls that are measured: the viewer's two routines, and the others through the wrappers of the crates `outside` and `outside_places`.
 
 #[rustfmt::skip]
 extern "C" {

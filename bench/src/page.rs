@@ -18,8 +18,8 @@ Each case runs ours and the peer's in turn in one process, and the median is tak
 by ours: above 1 ours is faster. Texts are made by the program from fixed seeds. Before it is timed, each case is compared: both \
 sides must agree.
 
-- Check and repair are the viewer's routines. The other calls go through the wrappers of the crate `outside`, which add a call and \
-a few numbers told.
+- Check and repair are the viewer's routines. The other calls go through the wrappers of the crates `outside` and `outside_places`, which \
+add a call and a few numbers told.
 - Output buffers are made and touched once before the timing, and are not cleared between runs; the same holds for peers that write \
 into a ready buffer (encoding_rs, and std's conversions here).
 - `String::from_utf8_lossy` allocates where there is damage; on clean text it lends its input and copies nothing, while ours writes the \

@@ -1,6 +1,7 @@
 // Repair of a text that comes in pieces, and the watch.
 ghost use Rattle.telling.specs.States.{isState, ready, decoderOf};
-ghost use Rattle.outside.specs.Keeping.{writable, Starts, Feeds, Finishes, Watches};
+ghost use Rattle.telling.specs.Keeping.{writable};
+ghost use Rattle.outside.specs.Keeping.{Starts, Feeds, Finishes, Watches};
 
 // The state is written whether or not the room is refused.
 #[no_mangle]

@@ -7,7 +7,7 @@ ghost use Rattle.utf8.specs.Scalar.{utf8};
 ghost use Rattle.utf16.specs.Scalar.{utf16};
 ghost use Rattle.points.specs.Points.{codes, noScalar};
 ghost use Rattle.telling.specs.Telling.{roomy};
-ghost use Rattle.outside.specs.Keeping.{Writes};
+ghost use Rattle.telling.specs.Keeping.{Writes};
 
 #[no_mangle]
 pub extern "C" fn outside_bytes_to_units(text: &[u8], out: &mut [u16], says: &mut [usize]) -> usize

@@ -1,2 +1,4 @@
 pub mod Telling
 pub mod Testing
+pub mod Wrapping
+pub mod Asking

@@ -34,6 +34,7 @@ pub type Cuts = unsafe extern "C" fn(*const u8, usize, usize) -> usize;
 // Nothing compares these declarations with the Rattle source but the tests: a slice passes as a pointer and a length.
 #[rustfmt::skip]
 #[link(name = "outside", kind = "static")]
+#[link(name = "outside_places", kind = "static")]
 extern "C" {
     pub fn outside_utf8_segment(text: *const u8, n: usize, says: *mut usize, m: usize) -> usize;
     pub fn outside_utf16_segment(text: *const u16, n: usize, says: *mut usize, m: usize) -> usize;

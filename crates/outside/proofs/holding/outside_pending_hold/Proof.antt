@@ -2,7 +2,7 @@
 -- Assumes nothing.
 use mathlib.Core.Path.{ap, _∙_}
 use Rattle.telling.specs.States.{three}
-use Rattle.outside.proofs.Wrapping.{as-said}
+use Rattle.telling.proofs.Wrapping.{as-said}
 use borrow.Author.Needs.{needs}
 use Rattle.outside.proofs.holding.outside_pending_hold.Statement.{statement}
 use Rattle.outside.proofs.holding.outside_pending_hold.Tie as tie

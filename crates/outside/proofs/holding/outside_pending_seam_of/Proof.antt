@@ -7,8 +7,8 @@ use borrow.Author.Tests.{not-true, not-false}
 use mathlib.Core.List.{List}
 use Rattle.pending.specs.Tail.{seamOf}
 use Rattle.telling.specs.States.{isState, seamNumbers}
-use Rattle.outside.proofs.Wrapping.{as-said, untold, also}
-use Rattle.outside.proofs.Stating.{not-state}
+use Rattle.telling.proofs.Wrapping.{as-said, untold, also}
+use Rattle.telling.proofs.Asking.{not-state}
 use borrow.Author.Needs.{needs}
 use Rattle.outside.proofs.holding.outside_pending_seam_of.Statement.{statement}
 use Rattle.outside.proofs.holding.outside_pending_seam_of.Tie as tie

@@ -5,8 +5,9 @@ use mathlib.Core.Bool.{true}
 use borrow.Author.Tests.{not-true, not-false}
 use Rattle.telling.specs.States.{isState}
 use Rattle.telling.proofs.Testing.{state-long}
-use Rattle.outside.proofs.Wrapping.{roomed}
-use Rattle.outside.proofs.Stating.{not-state, not-roomy, is-ready, unfinished, was-finished}
+use Rattle.telling.proofs.Wrapping.{roomed}
+use Rattle.telling.proofs.Asking.{not-state, not-roomy, is-ready}
+use Rattle.outside.proofs.Stating.{unfinished, was-finished}
 use borrow.Author.Needs.{needs}
 use Rattle.outside.proofs.mending.outside_repair_finish.Statement.{statement}
 use Rattle.outside.proofs.mending.outside_repair_finish.Tie as tie

@@ -1,7 +1,8 @@
 -- What start told is told, and its state put.
 -- Assumes nothing.
-use Rattle.outside.proofs.Wrapping.{roomed}
-use Rattle.outside.proofs.Stating.{not-long, not-both, is-writable, unstarted, started}
+use Rattle.telling.proofs.Wrapping.{roomed}
+use Rattle.telling.proofs.Asking.{not-long, not-both, is-writable}
+use Rattle.outside.proofs.Stating.{unstarted, started}
 use borrow.Author.Needs.{needs}
 use Rattle.outside.proofs.mending.outside_repair_start.Statement.{statement}
 use Rattle.outside.proofs.mending.outside_repair_start.Tie as tie

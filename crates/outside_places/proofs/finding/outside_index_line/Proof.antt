@@ -1,0 +1,26 @@
+-- What the lookup told is told.
+-- Assumes nothing.
+use mathlib.Core.Path.{_∙_}
+use Rattle.telling.proofs.Wrapping.{as-said}
+use borrow.Author.Needs.{needs}
+use Rattle.outside_places.proofs.finding.outside_index_line.Statement.{statement}
+use Rattle.outside_places.proofs.finding.outside_index_line.Tie as tie
+
+at-line-requires : tie.Need-at-line-requires
+at-line-requires c κs = search needs
+
+say-placed-requires : tie.Need-say-placed-requires
+say-placed-requires c κs = search needs
+
+tell-requires : tie.Need-tell-requires
+tell-requires c κs = search needs
+
+same-length : tie.Need-same-length
+same-length c = search needs
+
+returns : tie.Need-returns
+returns c = as-said (c .before .before .before .before .say-placed .ensures .numbers ∙ c .before .before .before .before .before .at-line .ensures) (c .before .before .tell .ensures)
+
+pub outside-index-line-spec : {M : Type 1} → statement M
+outside-index-line-spec =
+    tie.close (tie.spec at-line-requires say-placed-requires tell-requires same-length returns)

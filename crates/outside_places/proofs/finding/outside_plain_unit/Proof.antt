@@ -1,0 +1,26 @@
+-- What the lookup told is told.
+-- Assumes nothing.
+use mathlib.Core.Path.{_∙_}
+use Rattle.telling.proofs.Wrapping.{as-said}
+use borrow.Author.Needs.{needs}
+use Rattle.outside_places.proofs.finding.outside_plain_unit.Statement.{statement}
+use Rattle.outside_places.proofs.finding.outside_plain_unit.Tie as tie
+
+at-unit-requires : tie.Need-at-unit-requires
+at-unit-requires c κs = search needs
+
+say-placed-requires : tie.Need-say-placed-requires
+say-placed-requires c κs = search needs
+
+tell-requires : tie.Need-tell-requires
+tell-requires c κs = search needs
+
+same-length : tie.Need-same-length
+same-length c = search needs
+
+returns : tie.Need-returns
+returns c = as-said (c .before .before .before .before .say-placed .ensures .numbers ∙ c .before .before .before .before .before .at-unit .ensures) (c .before .before .tell .ensures)
+
+pub outside-plain-unit-spec : {M : Type 1} → statement M
+outside-plain-unit-spec =
+    tie.close (tie.spec at-unit-requires say-placed-requires tell-requires same-length returns)

@@ -1,0 +1,64 @@
+// The builder of an index.
+use build::Builder;
+ghost use lib.ListN.{length};
+ghost use lib.Dec.{leb};
+ghost use Rattle.telling.specs.States.{ready, builderOf};
+ghost use Rattle.outside_places.specs.Keeping.{Freshens, Builds, Ends};
+
+#[no_mangle]
+pub extern "C" fn outside_build_fresh(state: &mut [usize]) -> usize
+    ensures { λ r. ⌜ Freshens (leb 8 (length (now (state .entry)))) (now (state .entry)) (now (state .exit)) r ⌝ }
+{
+    if state.len() < 8 {
+        return telling::NOT_CALLED;
+    }
+    telling::states::keep_builder(Builder::fresh(), state);
+    0
+}
+
+#[no_mangle]
+pub extern "C" fn outside_build_feed(
+    state: &mut [usize],
+    piece: &[u8],
+    row: &mut [u32],
+    says: &mut [usize],
+) -> usize
+    ensures { λ r. ⌜ Builds (ready 8 (now (state .entry)) (now (says .entry))) (builderOf (now (state .entry)))
+        (now (piece .entry)) (now (row .entry)) (now (row .exit))
+        (now (state .entry)) (now (state .exit)) (now (says .entry)) (now (says .exit)) r ⌝ }
+{
+    if !telling::states::is_state(state, 8) {
+        return telling::NOT_CALLED;
+    }
+    if says.len() < telling::ROOM {
+        return telling::NOT_CALLED;
+    }
+    let built = build::feed(telling::states::builder_of(state), piece, row);
+    let answer = built.answer;
+    let next = built.state;
+    telling::states::keep_builder(next, state);
+    telling::tell(telling::say_building(answer), says)
+}
+
+#[no_mangle]
+pub extern "C" fn outside_build_finish(
+    state: &mut [usize],
+    row: &mut [u32],
+    says: &mut [usize],
+) -> usize
+    ensures { λ r. ⌜ Ends (ready 8 (now (state .entry)) (now (says .entry))) (builderOf (now (state .entry)))
+        (now (row .entry)) (now (row .exit))
+        (now (state .entry)) (now (state .exit)) (now (says .entry)) (now (says .exit)) r ⌝ }
+{
+    if !telling::states::is_state(state, 8) {
+        return telling::NOT_CALLED;
+    }
+    if says.len() < telling::ROOM {
+        return telling::NOT_CALLED;
+    }
+    let built = build::finish(telling::states::builder_of(state), row);
+    let answer = built.answer;
+    let next = built.state;
+    telling::states::keep_builder(next, state);
+    telling::tell(telling::say_building(answer), says)
+}
