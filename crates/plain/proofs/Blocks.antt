@@ -1,20 +1,21 @@
--- The first block of a text, and units below 80, which are plain and their own bytes.
+-- The units that a text begins with, and units below 80, which are plain and their own bytes.
 -- Assumes nothing.
 use mathlib.Core.Path.{_≡_, refl, sym, ap, _∙_}
 use Prim.Native.Nat.{ℕ, zero, suc, _+_, _≤_, _<_}
 use native.Mathlib.Nat.{add-zero}
 use native.Mathlib.Numerals.{add-one}
-use mathlib.Core.Bool.{true, false}
+use mathlib.Core.Bool.{Bool, true, false, _&&_, and-true, and-assoc}
 use mathlib.Core.List.{List, [], _∷_, _++_, append-assoc}
 use lib.ListN.{length, getD, take, drop, set, take-append-drop}
 use lib.Seq.{take-suc, drop-cons, set-at, take-all, length-take-le}
+use lib.Bits.{bitOr, or-lt, or-add-and, and-le-l, and-le-r}
 use lib.Dec.{ltb}
-use borrow.Author.Tests.{lt-ltb, le-ltb, ltb-false}
+use borrow.Author.Tests.{lt-ltb, le-ltb, ltb-true, ltb-false}
 use native.Mathlib.Omega.{arith}
-use Rattle.division.proofs.Cases.{split}
+use Rattle.division.proofs.Cases.{split, under, both}
 use Rattle.utf8.proofs.Scalars.{is-one}
 use Rattle.utf16.specs.Plain.{plain}
-use Rattle.plain.specs.Block.{block, roomy, bytesOf, Counts, Puts}
+use Rattle.plain.specs.Block.{opening, within, block, roomy, low, few, bytesOf, Counts, Puts}
 use Rattle.plain.specs.Places.{Under, Squeezed}
 use Rattle.plain.specs.declared.Part.{Part}
 
@@ -33,6 +34,30 @@ low-bytes (x ∷ xs) u =
     let a : x < 0x80 = omega (arith, u .each zero (omega arith)) in
     rw (is-one x a) (ap (λ (r : List ℕ). x ∷ r) (low-bytes xs (under-rest u)))
 
+pub low-under : (xs : List ℕ) → low xs ≡ true → Under xs 0x7F
+low-under [] p = record { each = λ k h. absurd (omega arith) }
+low-under (x ∷ xs) p = let q = both (ltb x 0x80) (low xs) p in record { each = go (ltb-true x 0x80 (q .0)) (low-under xs (q .1)) }
+  where
+    go : x < 0x80 → Under xs 0x7F → (k : ℕ) → k < length (x ∷ xs) → getD (x ∷ xs) k 0 ≤ 0x7F
+    go h u zero l = omega arith
+    go h u (suc k) l = u .each k (omega arith)
+
+low-suc : (xs : List ℕ) (k : ℕ) → k < length xs → low (take (suc k) xs) ≡ low (take k xs) && ltb (getD xs k 0) 0x80
+low-suc [] k h = absurd (omega arith)
+low-suc (x ∷ xs) zero h = and-true (ltb x 0x80)
+low-suc (x ∷ xs) (suc k) h = rw (low-suc xs k (omega arith)) (sym (and-assoc (ltb x 0x80) (low (take k xs)) (ltb (getD xs k 0) 0x80)))
+
+-- the bits of two numbers together are below 80 where both are
+or-low : (a b : ℕ) → ltb (bitOr a b) 0x80 ≡ ltb a 0x80 && ltb b 0x80
+or-low a b = under a 0x80
+    (λ h. rw (lt-ltb a 0x80 h) (under b 0x80
+    (λ l. rw (lt-ltb b 0x80 l) (lt-ltb (bitOr a b) 0x80 (or-lt 7 a b h l)))
+    (λ l. rw (le-ltb b 0x80 l) (le-ltb (bitOr a b) 0x80 (omega (arith, or-add-and a b, and-le-l a b))))))
+    (λ h. rw (le-ltb a 0x80 h) (le-ltb (bitOr a b) 0x80 (omega (arith, or-add-and a b, and-le-r a b))))
+
+pub low-next : (xs : List ℕ) (k bits : ℕ) → k < length xs → ltb bits 0x80 ≡ low (take k xs) → ltb (bitOr bits (getD xs k 0)) 0x80 ≡ low (take (k + 1) xs)
+low-next xs k bits h e = or-low bits (getD xs k 0) ∙ rw (add-one, low-suc xs k h, e)
+
 -- ---- a text that is copied into an output, element by element
 
 pub copied-next : (text out out′ : List ℕ) (k : ℕ) → k < length text → k < length out → out′ ≡ take k text ++ drop k out
@@ -42,7 +67,12 @@ copied-next text out out′ k h l e =
     let t : length (take k text) ≡ k = length-take-le k text (omega arith) in
     rw (add-one, e, drop-cons out k 0 l, set-at (take k text) (getD out k 0) (drop (suc k) out) a k t, take-suc text k 0 h, append-assoc)
 
--- ---- the first block
+pub copied-end : (text out out′ : List ℕ) (n k : ℕ) → n ≡ length text → k ≡ n → out′ ≡ take k text ++ drop k out → out′ ≡ text ++ drop n out
+copied-end text out out′ n k l h e =
+    let f : length text ≤ n = omega arith in
+    e ∙ rw (h, take-all n text f)
+
+-- ---- the units that a text begins with
 
 abbrev none : Part
 none = record { read = 0; places = 0 }
@@ -53,51 +83,66 @@ counts-none units e = rw e (record { read-is = refl; places-is = refl })
 pub puts-none : (units out : List ℕ) → units ≡ [] → Puts units out out none
 puts-none units out e = record { counts = counts-none units e; output = rw e }
 
-pub counts-low : (units : List ℕ) → 128 ≡ length units → Under units 0x7F → Counts units (record { read = 128; places = 128 })
-counts-low units l u = record { read-is = l; places-is = l ∙ sym (ap length (low-bytes units u)) }
+pub counts-low : (units : List ℕ) (n : ℕ) → n ≡ length units → Under units 0x7F → Counts units (record { read = n; places = n })
+counts-low units n l u = record { read-is = l; places-is = l ∙ sym (ap length (low-bytes units u)) }
 
-module _ (units out out′ : List ℕ) (l : 128 ≡ length units) where
-  pub puts-low : Under units 0x7F → out′ ≡ units ++ drop 128 out → Puts units out out′ (record { read = 128; places = 128 })
-  puts-low u e = record { counts = counts-low units l u; output = rw (low-bytes units u, ← l) e }
+pub puts-low : (units out out′ : List ℕ) (n : ℕ) → n ≡ length units → Under units 0x7F → out′ ≡ units ++ drop n out
+    → Puts units out out′ (record { read = n; places = n })
+puts-low units out out′ n l u e = record { counts = counts-low units n l u; output = rw (low-bytes units u, ← l) e }
 
-  pub puts-mixed : (n : ℕ) → Squeezed units 128 0 out out′ n → Puts units out out′ (record { read = 128; places = n })
-  puts-mixed n s =
-      let h : length units ≤ 128 = omega arith in
-      let t : take 128 units ≡ units = take-all 128 units h in
-      let c : n ≡ length (bytesOf units) = rw t at (s .count) in
-      let f : take n out′ ≡ bytesOf units = rw t at (s .form) in
-      let k : drop n out′ ≡ drop n out = rw add-zero at (s .kept) in
-      record { counts = record { read-is = l; places-is = c }; output = rw (← c) (sym (take-append-drop n out′) ∙ rw (f, k)) }
+pub puts-mixed : (units out out′ : List ℕ) → 128 ≡ length units → (n : ℕ) → Squeezed units 128 0 out out′ n
+    → Puts units out out′ (record { read = 128; places = n })
+puts-mixed units out out′ l n s =
+    let h : length units ≤ 128 = omega arith in
+    let t : take 128 units ≡ units = take-all 128 units h in
+    let c : n ≡ length (bytesOf units) = rw t at (s .count) in
+    let f : take n out′ ≡ bytesOf units = rw t at (s .form) in
+    let k : drop n out′ ≡ drop n out = rw add-zero at (s .kept) in
+    record { counts = record { read-is = l; places-is = c }; output = rw (← c) (sym (take-append-drop n out′) ∙ rw (f, k)) }
 
+module _ (test : List ℕ → Bool) (n : ℕ) (text : List ℕ) where
+  pub opening-short : length text < n → opening test n text ≡ []
+  opening-short h = rw (lt-ltb (length text) n h)
+
+  module _ (h : n ≤ length text) where
+    pub opening-mixed : test (take n text) ≡ false → opening test n text ≡ []
+    opening-mixed e = rw (le-ltb (length text) n h, e)
+
+    pub opening-all : test (take n text) ≡ true → opening test n text ≡ take n text
+    opening-all e = rw (le-ltb (length text) n h, e)
+
+module _ (places room : ℕ) (units : List ℕ) where
+  pub within-none : room < places → within places room units ≡ []
+  within-none h = rw (lt-ltb room places h)
+
+  pub within-empty : units ≡ [] → within places room units ≡ []
+  within-empty e = split (ltb room places) (λ f. rw f) (λ f. rw (f, e))
+
+  pub within-all : places ≤ room → within places room units ≡ units
+  within-all h = rw (le-ltb room places h)
+
+-- WHATEVER IT IS: it is plain, and the text begins with it
 module _ (text : List ℕ) where
-  pub block-short : length text < 128 → block text ≡ []
-  block-short h = rw (lt-ltb (length text) 128 h)
+  abbrev pub Plainly : List ℕ → Type 0
+  Plainly units = (plain units ≡ true) × (text ≡ units ++ drop (length units) text)
 
-  module _ (h : 128 ≤ length text) where
-    pub block-mixed : plain (take 128 text) ≡ false → block text ≡ []
-    block-mixed e = rw (le-ltb (length text) 128 h, e)
-
-    pub block-plain : plain (take 128 text) ≡ true → block text ≡ take 128 text
-    block-plain e = rw (le-ltb (length text) 128 h, e)
-
-  pub roomy-none : (room : ℕ) → room < 384 → roomy room text ≡ []
-  roomy-none room h = rw (lt-ltb room 384 h)
-
-  pub roomy-empty : (room : ℕ) → block text ≡ [] → roomy room text ≡ []
-  roomy-empty room e = split (ltb room 384) (λ f. rw f) (λ f. rw (f, e))
-
-  pub roomy-block : (room : ℕ) → 384 ≤ room → roomy room text ≡ block text
-  roomy-block room h = rw (le-ltb room 384 h)
-
-  -- WHATEVER IT IS: it is plain, and the text begins with it
-  pub block-is : (plain (block text) ≡ true) × (text ≡ block text ++ drop (length (block text)) text)
-  block-is = split (ltb (length text) 128)
+  opening-is : (test : List ℕ → Bool) → ((xs : List ℕ) → test xs ≡ true → plain xs ≡ true) → (n : ℕ) → Plainly (opening test n text)
+  opening-is test p n = split (ltb (length text) n)
       (λ e. rw e (refl, refl))
-      (λ e. split (plain (take 128 text))
+      (λ e. split (test (take n text))
       (λ f.
-      let l : length (take 128 text) ≡ 128 = length-take-le 128 text (ltb-false (length text) 128 e) in
-      rw (e, f, l) (f, sym (take-append-drop 128 text)))
+      let l : length (take n text) ≡ n = length-take-le n text (ltb-false (length text) n e) in
+      rw (e, f, l) (p (take n text) f, sym (take-append-drop n text)))
       (λ f. rw (e, f) (refl, refl)))
 
-  pub roomy-is : (room : ℕ) → (plain (roomy room text) ≡ true) × (text ≡ roomy room text ++ drop (length (roomy room text)) text)
-  roomy-is room = split (ltb room 384) (λ e. rw e (refl, refl)) (λ e. rw e block-is)
+  within-is : (places room : ℕ) (units : List ℕ) → Plainly units → Plainly (within places room units)
+  within-is places room units p = split (ltb room places) (λ e. rw e (refl, refl)) (λ e. rw e p)
+
+  pub block-is : Plainly (block text)
+  block-is = opening-is plain (λ xs p. p) 128
+
+  pub roomy-is : (room : ℕ) → Plainly (roomy room text)
+  roomy-is room = within-is 384 room (block text) block-is
+
+  pub few-is : (room : ℕ) → Plainly (few room text)
+  few-is room = within-is 16 room (opening low 16 text) (opening-is low (λ xs p. low-plain xs (low-under xs p)) 16)

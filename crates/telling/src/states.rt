@@ -8,10 +8,11 @@ use place::Points;
 use place::Units;
 use terms::Decoder;
 use terms::First;
-ghost use Prim.Native.Nat.{_%_};
+ghost use Prim.Native.Nat.{_%_, _≤_};
 ghost use mathlib.Core.Path.{_≡_};
-ghost use lib.ListN.{getD};
+ghost use lib.ListN.{length, getD};
 ghost use Rattle.index.specs.Checkpoints.{placeOf};
+ghost use Rattle.telling.specs.Telling.{put};
 ghost use Rattle.telling.specs.States.{isState, heldOf, decoderOf, decoderNumbers, builderOf, builderNumbers, kept, firstOf, Offsets};
 
 // Are there so many numbers, and at least three, of which the first three are bytes?
@@ -74,6 +75,18 @@ pub fn decoder_of(numbers: &[usize]) -> Decoder
     }
 }
 
+// Copies numbers to the start of a slice.
+fn copy(numbers: &[usize], out: &mut [usize])
+    requires { ⌜ length (now numbers) ≤ length (now out) ⌝ }
+    ensures { λ r. ⌜ now (out .exit) ≡ put (now (numbers .entry)) (now (out .entry)) ⌝ }
+{
+    let mut i = 0;
+    while i < numbers.len() {
+        out[i] = numbers[i];
+        i += 1;
+    }
+}
+
 // Keeps a state in a slice that has the places for it.
 pub fn keep_decoder(d: Decoder, state: &mut [usize])
     ensures { λ r. ⌜ now (state .exit) ≡ kept 9 (decoderNumbers d) (now (state .entry)) ⌝ }
@@ -93,7 +106,7 @@ pub fn keep_decoder(d: Decoder, state: &mut [usize])
         d.count,
         d.room,
     ];
-    crate::copy(&numbers, state);
+    copy(&numbers, state);
 }
 
 pub fn builder_of(numbers: &[usize]) -> Builder
@@ -127,7 +140,7 @@ pub fn keep_builder(b: Builder, state: &mut [usize])
         b.points,
         b.lines,
     ];
-    crate::copy(&numbers, state);
+    copy(&numbers, state);
 }
 
 pub fn place_of(numbers: &[usize]) -> Place

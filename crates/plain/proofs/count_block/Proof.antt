@@ -5,15 +5,16 @@ use lib.ListN.{length, take}
 use lib.Seq.{length-take-le}
 use native.Mathlib.Omega.{arith}
 use borrow.Author.Tests.{not-true, not-false}
+use Rattle.utf16.specs.Plain.{plain}
 use Rattle.plain.specs.Block.{block}
 use Rattle.plain.specs.Places.{Under}
-use Rattle.plain.proofs.Blocks.{low-plain, counts-none, counts-low, block-short, block-mixed, block-plain}
+use Rattle.plain.proofs.Blocks.{low-plain, counts-none, counts-low, opening-short, opening-mixed, opening-all}
 use borrow.Author.Needs.{needs}
 use Rattle.plain.proofs.count_block.Statement.{statement}
 use Rattle.plain.proofs.count_block.Tie as tie
 
 returns : tie.Need-returns
-returns c = let t = c .before .before .args .text .now in counts-none (block t) (block-short t (c .if1 .taken))
+returns c = let t = c .before .before .args .text .now in counts-none (block t) (opening-short plain 128 t (c .if1 .taken))
 
 -- the block has 128 units
 long : (c : tie.After-units) → let t = c .before .before .before .args .text .now in _≡_ 128 (length (take 128 t))
@@ -31,8 +32,8 @@ returns-2 c =
     let e = u .before in
     let t = e .before .before .args .text .now in
     let low : Under (take 128 t) 0x7F = record { each = λ k h. omega (arith, c .before .top .ensures .each k h, c .if2 .taken) } in
-    let b : block t ≡ take 128 t = block-plain t (e .if1 .left) (low-plain (take 128 t) low) in
-    rw b (counts-low (take 128 t) (long u) low)
+    let b : block t ≡ take 128 t = opening-all plain 128 t (e .if1 .left) (low-plain (take 128 t) low) in
+    rw b (counts-low (take 128 t) 128 (long u) low)
 
 is-plain-requires : tie.Need-is-plain-requires
 is-plain-requires c κs = search needs
@@ -42,7 +43,7 @@ returns-3 c =
     let p = c .before in
     let e = p .before .before .before .before in
     let t = e .before .before .args .text .now in
-    counts-none (block t) (block-mixed t (e .if1 .left) (sym (p .is-plain .ensures) ∙ not-true _ (c .if3 .taken)))
+    counts-none (block t) (opening-mixed plain 128 t (e .if1 .left) (sym (p .is-plain .ensures) ∙ not-true _ (c .if3 .taken)))
 
 count-requires : tie.Need-count-requires
 count-requires c κs = long (c .before .before .before .before)
@@ -57,7 +58,7 @@ returns-4 c =
     let u = p .before .before .before in
     let e = u .before in
     let t = e .before .before .args .text .now in
-    let b : block t ≡ take 128 t = block-plain t (e .if1 .left) (sym (p .is-plain .ensures) ∙ not-false _ (n .before .if3 .left)) in
+    let b : block t ≡ take 128 t = opening-all plain 128 t (e .if1 .left) (sym (p .is-plain .ensures) ∙ not-false _ (n .before .if3 .left)) in
     rw b (record { read-is = long u; places-is = c .wide .ensures ∙ n .count .ensures })
 
 pub count-block-spec : {M : Type 1} → statement M

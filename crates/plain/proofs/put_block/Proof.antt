@@ -5,9 +5,10 @@ use lib.ListN.{length, take}
 use lib.Seq.{length-take-le}
 use borrow.Author.Tests.{not-true, not-false}
 use native.Mathlib.Omega.{arith}
-use Rattle.plain.specs.Block.{roomy}
+use Rattle.utf16.specs.Plain.{plain}
+use Rattle.plain.specs.Block.{block, roomy}
 use Rattle.plain.specs.Places.{Under}
-use Rattle.plain.proofs.Blocks.{low-plain, puts-none, puts-low, puts-mixed, block-short, block-mixed, block-plain, roomy-none, roomy-empty, roomy-block}
+use Rattle.plain.proofs.Blocks.{low-plain, puts-none, puts-low, puts-mixed, opening-short, opening-mixed, opening-all, within-none, within-empty, within-all}
 use borrow.Author.Needs.{needs}
 use Rattle.plain.proofs.put_block.Statement.{statement}
 use Rattle.plain.proofs.put_block.Tie as tie
@@ -17,13 +18,13 @@ returns c =
     let a = c .before .before .before .args in
     let room = length (a .out .now) in
     let t = a .text .now in
-    puts-none (roomy room t) (a .out .now) (roomy-empty t room (block-short t (c .if1 .taken)))
+    puts-none (roomy room t) (a .out .now) (within-empty 384 room (block t) (opening-short plain 128 t (c .if1 .taken)))
 
 returns-2 : tie.Need-returns-2
 returns-2 c =
     let a = c .before .before .before .before .args in
     let room = length (a .out .now) in
-    puts-none (roomy room (a .text .now)) (a .out .now) (roomy-none (a .text .now) room (c .if2 .taken))
+    puts-none (roomy room (a .text .now)) (a .out .now) (within-none 384 room (block (a .text .now)) (c .if2 .taken))
 
 -- the block has 128 units
 long : (c : tie.After-units)
@@ -56,8 +57,8 @@ returns-3 c =
     let a = e .before .before .before .args in
     let t = a .text .now in
     let room = length (a .out .now) in
-    let b : roomy room t ≡ take 128 t = roomy-block t room (u .before .if2 .left) ∙ block-plain t (e .if1 .left) (low-plain (take 128 t) (low w)) in
-    rw b (puts-low (take 128 t) (a .out .now) (p .put-low .last .1 .0) (long u) (low w) (p .put-low .ensures))
+    let b : roomy room t ≡ take 128 t = within-all 384 room (block t) (u .before .if2 .left) ∙ opening-all plain 128 t (e .if1 .left) (low-plain (take 128 t) (low w)) in
+    rw b (puts-low (take 128 t) (a .out .now) (p .put-low .last .1 .0) 128 (long u) (low w) (p .put-low .ensures))
 
 is-plain-requires : tie.Need-is-plain-requires
 is-plain-requires c κs = search needs
@@ -70,7 +71,7 @@ returns-4 c =
     let a = e .before .before .before .args in
     let t = a .text .now in
     let room = length (a .out .now) in
-    puts-none (roomy room t) (a .out .now) (roomy-empty t room (block-mixed t (e .if1 .left) (sym (p .is-plain .ensures) ∙ not-true _ (c .if4 .taken))))
+    puts-none (roomy room t) (a .out .now) (within-empty 384 room (block t) (opening-mixed plain 128 t (e .if1 .left) (sym (p .is-plain .ensures) ∙ not-true _ (c .if4 .taken))))
 
 put-mixed-requires : tie.Need-put-mixed-requires
 put-mixed-requires c κs = let u = c .before .before .before .before .before in (long u, u .before .if2 .left)
@@ -88,7 +89,7 @@ returns-5 c =
     let a = e .before .before .before .args in
     let t = a .text .now in
     let room = length (a .out .now) in
-    let b : roomy room t ≡ take 128 t = roomy-block t room (u .before .if2 .left) ∙ block-plain t (e .if1 .left) (sym (p .is-plain .ensures) ∙ not-false _ (f .if4 .left)) in
+    let b : roomy room t ≡ take 128 t = within-all 384 room (block t) (u .before .if2 .left) ∙ opening-all plain 128 t (e .if1 .left) (sym (p .is-plain .ensures) ∙ not-false _ (f .if4 .left)) in
     rw b (puts-mixed (take 128 t) (a .out .now) (m .put-mixed .last .1 .0) (long u) _ (m .put-mixed .ensures))
 
 pub put-block-spec : {M : Type 1} → statement M

@@ -1,13 +1,12 @@
 -- The units passed stand in the output.
 -- Assumes nothing.
-use mathlib.Core.Path.{_≡_, refl, subst, _∙_}
+use mathlib.Core.Path.{_≡_, refl, _∙_}
 use Prim.Native.Nat.{ℕ, _-_, _%_, _≤_}
 use mathlib.Core.List.{_++_}
 use lib.ListN.{length, getD, take, drop, length-set}
-use lib.Seq.{take-all}
 use native.Mathlib.Omega.{arith}
 use borrow.Author.Needs.{needs}
-use Rattle.plain.proofs.Blocks.{copied-next}
+use Rattle.plain.proofs.Blocks.{copied-next, copied-end}
 use Rattle.plain.proofs.put_low.Statement.{statement}
 use Rattle.plain.proofs.put_low.Tie as tie
 
@@ -56,10 +55,8 @@ same-length c = c .before .loop .inv .1
 returns : tie.Need-returns Inv-loop μ-loop
 returns c =
     let l = c .before in
-    let a = l .before .before .before .before .args in
-    let e : l .loop .k ≡ 128 = omega arith in
-    let f : length (a .units .now) ≤ 128 = omega arith in
-    rw (← take-all 128 (a .units .now) f) (subst (λ (k : ℕ). l .loop .out ≡ take k (a .units .now) ++ drop k (a .out .now)) e (l .loop .inv .2))
+    let z = l .before .before .before .before in
+    copied-end (z .args .units .now) (z .args .out .now) (l .loop .out) 128 (l .loop .k) (z .pre .0) (omega arith) (l .loop .inv .2)
 
 pub put-low-spec : {M : Type 1} → statement M
 put-low-spec =

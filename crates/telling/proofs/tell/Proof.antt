@@ -1,4 +1,4 @@
--- So many of the numbers are copied.
+-- So many of the numbers are put at the start.
 -- Assumes nothing.
 use Prim.Native.Nat.{ℕ, _≤_}
 use mathlib.Core.Path.{_≡_, sym, ap, _∙_}
@@ -28,37 +28,20 @@ returns c = told-short (c .before .before .args .says .now) (c .if1 .taken)
 least-requires : tie.Need-least-requires
 least-requires c κs = search needs
 
-array-share-prefix-numbers : tie.Need-array-share-prefix-numbers
-array-share-prefix-numbers c = fewer c
-
-slice-aggregate-copy : tie.Need-slice-aggregate-copy
-slice-aggregate-copy c = sym (part (c .before))
-
-copy-requires : tie.Need-copy-requires
-copy-requires c κs =
-    let l = c .before .before in
-    omega (arith, part l, l .least .ensures, l .before .before .if1 .left)
+put-each-requires : tie.Need-put-each-requires
+put-each-requires c κs = search needs
 
 same-length : tie.Need-same-length
 same-length c = search needs
 
 returns-2 : tie.Need-returns-2
 returns-2 c =
-    let l = c .before .before .before .before .before in
+    let l = c .before .before .before .before in
     let z = l .before .before .before .before in
     let said = z .args .said in
     let e = told-part (l .least .result) (said .count) (said .numbers) (five z) (l .least .ensures) in
     told-copied (z .args .says .now) (l .before .before .if1 .left) (sym (part l) ∙ ap length e)
-    (c .before .before .copy .ensures ∙ ap (λ (run : List ℕ). put run (z .args .says .now)) e)
+    (c .before .before .put-each .ensures ∙ ap (λ (run : List ℕ). put run (z .args .says .now)) e)
 
 pub tell-spec : {M : Type 1} → statement M
-tell-spec =
-    tie.close
-    (tie.spec
-    returns
-    least-requires
-    array-share-prefix-numbers
-    slice-aggregate-copy
-    copy-requires
-    same-length
-    returns-2)
+tell-spec = tie.close (tie.spec returns least-requires put-each-requires same-length returns-2)

@@ -8,8 +8,8 @@ use lib.Seq.{take-length}
 use native.Mathlib.Omega.{arith}
 use borrow.Author.Needs.{needs}
 use Rattle.pending.proofs.Holding.{copied-next}
-use Rattle.telling.proofs.copy.Statement.{statement}
-use Rattle.telling.proofs.copy.Tie as tie
+use Rattle.telling.proofs.states.copy.Statement.{statement}
+use Rattle.telling.proofs.states.copy.Tie as tie
 
 abbrev Inv-loop : tie.InvT-loop
 Inv-loop numbers out₀ i₀ out i = (i ≤ length numbers) × (length out ≡ length out₀) × (out ≡ take i numbers ++ drop i out₀)
