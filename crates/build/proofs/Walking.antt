@@ -1,7 +1,7 @@
 -- The walk over the settled segments of a text: the stream behind the text is that behind the rest of it, from the place reached.
 -- Assumes nothing.
-use mathlib.Core.Path.{_≡_, refl, sym, ap, _∙_}
-use Prim.Native.Nat.{ℕ, _+_, _≤_, _<_}
+use mathlib.Core.Path.{_≡_, refl, sym, ap, subst, _∙_}
+use Prim.Native.Nat.{ℕ, _+_, _-_, _≤_, _<_}
 use mathlib.Core.List.{List, foldl, foldl-append}
 use lib.ListN.{length, getD, drop, length-drop}
 use lib.Seq.{drop-drop, length-sets}
@@ -20,7 +20,7 @@ use Rattle.place.specs.Lookup.{counts}
 use Rattle.place.specs.declared.Place.{Place}
 use Rattle.index.specs.Checkpoints.{spacing}
 use Rattle.build.specs.Building.{closed}
-use Rattle.build.specs.Steps.{Fits, marked, behind, Ahead, Advances, builtOf, streamOf, Walks, keeping, Closes}
+use Rattle.build.specs.Steps.{marked, behind, Ahead, Advances, builtOf, streamOf, Walks, Walked, keeping, Closes, Stretched}
 use Rattle.build.proofs.Marking.{behind-fits, add-first}
 use Rattle.build.specs.declared.Builder.{Builder}
 
@@ -60,17 +60,55 @@ stream-end p row text z = ap (streamed (builtOf p row)) (settled-none text z .1)
 -- ---- THE WALK has come to a place
 
 module _ (text : List ℕ) (from : Place) (row₀ : List ℕ) where
-  pub record Walked (row : List ℕ) (p : Place) (at : ℕ) : Type 0 where
-    pub inside : at ≤ length text
-    pub bytes-are : p .bytes ≡ from .bytes + at
-    pub fits : Fits p
-    pub long : length row ≡ length row₀
-    pub same : streamOf from row₀ text ≡ streamOf p row (drop at text)
-
-  pub walked-start : Walks from text row₀ → Walked row₀ from 0
+  pub walked-start : Walks from text row₀ → Walked text from row₀ row₀ from 0
   walked-start w = record { inside = omega arith; bytes-are = omega arith; fits = w .fits; long = refl; same = refl }
 
-  module _ (w : Walks from text row₀) {row : List ℕ} {p : Place} {at : ℕ} (d : Walked row p at) where
+  -- some segments
+  pub walked-stretched : {row : List ℕ} {p : Place} {at : ℕ} → Walked text from row₀ row p at → (at ≡ 0 → total size (settled text) ≡ 0)
+      → Stretched text from row₀ row p
+  walked-stretched {row} {p} {at} d z =
+      let e : at ≡ p .bytes - from .bytes = omega (arith, d .bytes-are) in
+      record {
+        walked = subst (Walked text from row₀ row p) e d;
+        none = λ b. z (omega (arith, d .bytes-are));
+      }
+
+  -- it goes on from the place reached
+  pub walked-on : {row row′ : List ℕ} {p q : Place} {at n : ℕ} → Walked text from row₀ row p at → Walked (drop at text) p row row′ q n
+      → Walked text from row₀ row′ q (at + n)
+  walked-on {at = at} {n = n} d e = record {
+    inside = omega (arith, d .inside, e .inside, length-drop at text);
+    bytes-are = omega (arith, d .bytes-are, e .bytes-are);
+    fits = e .fits;
+    long = e .long ∙ d .long;
+    same = d .same ∙ e .same ∙ rw (drop-drop n at text);
+  }
+
+  -- by some segments
+  module _ {row row′ : List ℕ} {p q : Place} {at : ℕ} (d : Walked text from row₀ row p at) (s : Stretched (drop at text) p row row′ q) where
+    stretched-is : q .bytes - from .bytes ≡ at + (q .bytes - p .bytes)
+    stretched-is = omega (arith, d .bytes-are, s .walked .bytes-are)
+
+    pub stretched-on : Walked text from row₀ row′ q (q .bytes - from .bytes)
+    stretched-on = rw stretched-is (walked-on d (s .walked))
+
+    pub stretched-none : q .bytes ≡ p .bytes → Walked text from row₀ row′ q at × (total size (settled (drop at text)) ≡ 0)
+    stretched-none e =
+        let k : at + (q .bytes - p .bytes) ≡ at = omega arith in
+        (subst (Walked text from row₀ row′ q) k (walked-on d (s .walked)), s .none e)
+
+    pub stretched-some : (q .bytes ≡ p .bytes → ⊥) → (from .bytes ≤ q .bytes) × (at < q .bytes - from .bytes)
+    stretched-some n = (omega (arith, d .bytes-are, s .walked .bytes-are), omega (arith, d .bytes-are, s .walked .bytes-are, n))
+
+  -- the rest may be walked over too
+  pub walked-walks : Walks from text row₀ → {row : List ℕ} {p : Place} {at : ℕ} → Walked text from row₀ row p at → Walks p (drop at text) row
+  walked-walks w {at = at} d = record {
+    fits = d .fits;
+    within = omega (arith, length-drop at text, d .inside, d .bytes-are, w .within);
+    room = omega (arith, length-drop at text, d .inside, d .bytes-are, d .long, w .room);
+  }
+
+  module _ (w : Walks from text row₀) {row : List ℕ} {p : Place} {at : ℕ} (d : Walked text from row₀ row p at) where
     -- nothing more is settled
     pub walked-end : (taken : ℕ) (r : Builder) → total size (settled (drop at text)) ≡ 0 → r ≡ keeping (drop at text) p taken
         → Closes taken (streamOf from row₀ text) row r
@@ -101,7 +139,7 @@ module _ (text : List ℕ) (from : Place) (row₀ : List ℕ) where
         room = omega (arith, inside-next, d .bytes-are, w .room, d .long);
       }
 
-      pub walked-next : {x : ℕ} {row′ : List ℕ} {q : Place} → x ≡ getD (drop at text) 0 0 → Advances p n x row row′ q → Walked row′ q (at + n)
+      pub walked-next : {x : ℕ} {row′ : List ℕ} {q : Place} → x ≡ getD (drop at text) 0 0 → Advances p n x row row′ q → Walked text from row₀ row′ q (at + n)
       walked-next {x} {row′} {q} e a = record {
         inside = inside-next;
         bytes-are = rw (a .place-is) (omega (arith, d .bytes-are));

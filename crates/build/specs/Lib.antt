@@ -1,3 +1,4 @@
 pub mod Building
 pub mod Steps
+pub mod Runs
 pub mod Course

@@ -4,16 +4,16 @@ use mathlib.Core.Path.{_≡_}
 use Prim.Native.Nat.{ℕ, _+_, _-_, _*_, _≤_, _<_}
 use mathlib.Core.Bool.{true, cond}
 use mathlib.Core.List.{List}
-use lib.ListN.{length}
+use lib.ListN.{length, drop}
 use lib.Seq.{sets}
 use lib.Dec.{leb}
 use Rattle.division.specs.Stream.{State}
 use Rattle.division.specs.Stream as stream
-use Rattle.division.specs.Tally.{written}
+use Rattle.division.specs.Tally.{written, total, size}
 use Rattle.division.specs.Index.{Built, tab, marks, add}
 use Rattle.terms.specs.Limits.{limit}
 use Rattle.utf8.specs.Bytes.{bytes}
-use Rattle.pending.specs.Tail.{four}
+use Rattle.pending.specs.Tail.{settled as settledFirst, four}
 use Rattle.place.specs.Measures.{place, ruler}
 use Rattle.place.specs.Walk.{unitsBySize, linesByHead}
 use Rattle.place.specs.Lookup.{counts}
@@ -85,6 +85,14 @@ pub record Walks (from : Place) (text row : List ℕ) : Type 0 where
   pub within : from .bytes + length text ≤ limit
   pub room : needed (from .bytes + length text) ≤ length row
 
+-- the first bytes of a text were walked over: the stream behind it is that behind the rest, from the place reached
+pub record Walked (text : List ℕ) (from : Place) (row₀ row : List ℕ) (p : Place) (at : ℕ) : Type 0 where
+  pub inside : at ≤ length text
+  pub bytes-are : p .bytes ≡ from .bytes + at
+  pub fits : Fits p
+  pub long : length row ≡ length row₀
+  pub same : streamOf from row₀ text ≡ streamOf p row (drop at text)
+
 -- the state that keeps what is left behind a place
 abbrev pub keeping : List ℕ → Place → ℕ → Builder
 keeping rest p taken = closed taken (record { left = rest; kept = builtOf p rest })
@@ -93,6 +101,16 @@ keeping rest p taken = closed taken (record { left = rest; kept = builtOf p rest
 pub record Closes (taken : ℕ) (s : State (Built Place)) (row′ : List ℕ) (r : Builder) : Type 0 where
   pub state : r ≡ closed taken s
   pub checkpoints : row′ ≡ s .kept .row
+
+-- at most so many of them
+pub record Stretches (from : Place) (text : List ℕ) (most : ℕ) (row : List ℕ) : Type 0 where
+  pub walks : Walks from text row
+  pub some : 0 < most
+
+-- none is passed only where none is settled
+pub record Stretched (text : List ℕ) (from : Place) (row row′ : List ℕ) (p : Place) : Type 0 where
+  pub walked : Walked text from row row′ p (p .bytes - from .bytes)
+  pub none : p .bytes ≡ from .bytes → total size (settledFirst text) ≡ 0
 
 -- ---- a call that is granted
 

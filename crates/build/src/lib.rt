@@ -3,15 +3,20 @@ use place::Place;
 use terms::Decoder;
 use terms::Refusal;
 ghost use mathlib.Core.Path.{_≡_};
-ghost use Prim.Native.Nat.{_+_, _*_, _≤_};
-ghost use lib.ListN.{length};
+ghost use Prim.Native.Nat.{_+_, _*_, _≤_, _<_};
+ghost use mathlib.Core.Bool.{false};
+ghost use lib.ListN.{length, getD};
 ghost use lib.Seq.{sets};
 ghost use Rattle.division.specs.Index.{begun};
+ghost use Rattle.lanes.specs.Stands.{later};
+ghost use Rattle.sums.specs.Counts.{fourOf};
 ghost use Rattle.place.specs.Measures.{ruler};
 ghost use Rattle.place.specs.Lookup.{counts};
 ghost use Rattle.index.specs.Checkpoints.{spacing};
 ghost use Rattle.build.specs.Building.{freshBuilder, settled, sound, building, buildSays, ended, Feeds, Finishes};
-ghost use Rattle.build.specs.Steps.{Holds, marked, Between, Ahead, Advances, keeping, Walks, Seams, Closes, Granted, streamOf, joined, grown};
+ghost use Rattle.build.specs.Steps.{Holds, marked, Between, Ahead, Advances, keeping, Walks, Walked, Seams, Closes, Granted, streamOf, joined, grown};
+ghost use Rattle.build.specs.Steps.{Stretches, Stretched};
+ghost use Rattle.build.specs.Runs.{summed, Roomy, Bound, Covers, StepsBack, Runs};
 
 // What the builder keeps between two pieces.
 pub struct Builder {
@@ -182,6 +187,121 @@ fn place_of(state: Builder) -> Place
     }
 }
 
+// The last byte at or before n that is no later byte.
+fn boundary(text: &[u8], n: usize) -> usize
+    requires { ⌜ (n < length (now text)) × (later (getD (now text) 0 0) ≡ false) ⌝ }
+    ensures { λ r. ⌜ Bound (now (text .entry)) n r ⌝ }
+{
+    let mut b = n;
+    loop {
+        let x = text[b];
+        if x < 0x80 {
+            return b;
+        }
+        if 0xC0 <= x {
+            return b;
+        }
+        b -= 1;
+    }
+}
+
+// The units of a segment that begins with this byte.
+fn units_from(head: u8) -> usize
+    ensures { λ r. ⌜ r ≡ 1 + fourOf head ⌝ }
+{
+    if 0xF0 <= head { 2 } else { 1 }
+}
+
+// The place at the last boundary at or before byte n of whole segments; q has the counts there.
+fn step_back(text: &[u8], n: usize, q: Place) -> Place
+    requires { ⌜ Covers q (now text) n ⌝ }
+    ensures { λ r. ⌜ StepsBack (now (text .entry)) n q r ⌝ }
+{
+    if text.len() <= n {
+        return q;
+    }
+    let b = boundary(text, n);
+    if b == n {
+        return q;
+    }
+    let head = text[b];
+    Place {
+        bytes: q.bytes - (n - b),
+        units: q.units - units_from(head),
+        points: q.points - 1,
+        lines: q.lines - place::lines_of(head),
+    }
+}
+
+// The counts behind some bytes of whole segments.
+fn add_sums(p: Place, text: &[u8]) -> Place
+    requires { ⌜ Roomy p (now text) ⌝ }
+    ensures { λ r. ⌜ r ≡ summed p (now (text .entry)) ⌝ }
+{
+    let s = sums::count(text);
+    Place {
+        bytes: p.bytes + text.len(),
+        units: p.units + s.starts + s.fours,
+        points: p.points + s.starts,
+        lines: p.lines + s.ends,
+    }
+}
+
+// Whole segments are walked over, from one checkpoint to the next.
+fn pass_run(text: &[u8], from: Place, row: &mut [u32]) -> Place
+    requires { ⌜ Runs from (now text) (now row) ⌝ }
+    ensures { λ r. ⌜ Walked (now (text .entry)) from (now (row .entry)) (now (row .exit)) r (length (now (text .entry))) ⌝ }
+{
+    let mut q = from;
+    let mut at: usize = 0;
+    loop {
+        let end = at + (index::SPACING - q.bytes % index::SPACING);
+        if text.len() < end {
+            return add_sums(q, &text[at..]);
+        }
+        q = add_sums(q, &text[at..end]);
+        mark(row, q.bytes / index::SPACING, step_back(text, end, q));
+        at = end;
+    }
+}
+
+// At most so many settled segments are walked over, one by one.
+fn stretch(text: &[u8], from: Place, most: usize, row: &mut [u32]) -> Place
+    requires { ⌜ Stretches from (now text) most (now row) ⌝ }
+    ensures { λ r. ⌜ Stretched (now (text .entry)) from (now (row .entry)) (now (row .exit)) r ⌝ }
+{
+    let mut p = from;
+    let mut at: usize = 0;
+    let mut left = most;
+    while 0 < left {
+        let size = pending::settled_size(utf8::segment(&text[at..]));
+        if size == 0 {
+            return p;
+        }
+        p = advance(p, size, text[at], row);
+        at += size;
+        left -= 1;
+    }
+    p
+}
+
+// So many segments are read one by one behind a run of whole segments, before the next one is tried.
+const WAIT: usize = 8;
+
+// How many are read behind this run: twice as many as before where it was short, so that dense damage is not slowed.
+fn wait_behind(run: usize, wait: usize) -> usize
+    requires { ⌜ 0 < wait ⌝ }
+    ensures { λ r. ⌜ 0 < r ⌝ }
+{
+    if 32 <= run {
+        return WAIT;
+    }
+    if wait < 1024 {
+        return 2 * wait;
+    }
+    wait
+}
+
 // All that is settled of a text is walked over from a place on, and the rest is kept.
 fn walk(text: &[u8], from: Place, taken: usize, row: &mut [u32]) -> Builder
     requires { ⌜ Walks from (now text) (now row) ⌝ }
@@ -189,13 +309,18 @@ fn walk(text: &[u8], from: Place, taken: usize, row: &mut [u32]) -> Builder
 {
     let mut p = from;
     let mut at: usize = 0;
+    let mut wait = WAIT;
     loop {
-        let size = pending::settled_size(utf8::segment(&text[at..]));
-        if size == 0 {
-            return keep(&text[at..], p, taken);
+        let run = utf8::whole_run(&text[at..]);
+        let end = at + run;
+        p = pass_run(&text[at..end], p, row);
+        let q = stretch(&text[end..], p, wait, row);
+        if q.bytes == p.bytes {
+            return keep(&text[end..], q, taken);
         }
-        p = advance(p, size, text[at], row);
-        at += size;
+        p = q;
+        at = q.bytes - from.bytes;
+        wait = wait_behind(run, wait);
     }
 }
 

@@ -108,7 +108,7 @@ fn check(c: Checked) {
 
 fn bytes_repaired(text: &[u8]) {
     let mut out = [0u8; 64];
-    match convert::from_bytes::repair(text, &mut out) {
+    match from_bytes::repair(text, &mut out) {
         Written::Count(n) => spell_bytes(&out[..n]),
         Written::Refused(r) => refused(r),
     }
@@ -116,7 +116,7 @@ fn bytes_repaired(text: &[u8]) {
 
 fn bytes_as_units(text: &[u8]) {
     let mut out = [0u16; 64];
-    match convert::from_bytes::repair_to_units(text, &mut out) {
+    match from_bytes::repair_to_units(text, &mut out) {
         Written::Count(n) => spell_units(&out[..n]),
         Written::Refused(r) => refused(r),
     }
@@ -124,7 +124,7 @@ fn bytes_as_units(text: &[u8]) {
 
 fn units_repaired(text: &[u16]) {
     let mut out = [0u16; 64];
-    match convert::from_units::repair(text, &mut out) {
+    match from_units::repair(text, &mut out) {
         Written::Count(n) => spell_units(&out[..n]),
         Written::Refused(r) => refused(r),
     }
@@ -132,7 +132,7 @@ fn units_repaired(text: &[u16]) {
 
 fn units_as_bytes(text: &[u16]) {
     let mut out = [0u8; 64];
-    match convert::from_units::repair_to_bytes(text, &mut out) {
+    match from_units::repair_to_bytes(text, &mut out) {
         Written::Count(n) => spell_bytes(&out[..n]),
         Written::Refused(r) => refused(r),
     }

@@ -24,10 +24,7 @@ pub extern "C" fn outside_bytes_to_units(text: &[u8], out: &mut [u16], says: &mu
     if says.len() < telling::ROOM {
         return telling::NOT_CALLED;
     }
-    telling::tell(
-        telling::say_written(convert::from_bytes::to_units(text, out)),
-        says,
-    )
+    telling::tell(telling::say_written(from_bytes::to_units(text, out)), says)
 }
 
 #[no_mangle]
@@ -45,10 +42,7 @@ pub extern "C" fn outside_bytes_to_codes(text: &[u8], out: &mut [u32], says: &mu
     if says.len() < telling::ROOM {
         return telling::NOT_CALLED;
     }
-    telling::tell(
-        telling::say_written(convert::from_bytes::to_codes(text, out)),
-        says,
-    )
+    telling::tell(telling::say_written(from_bytes::to_codes(text, out)), says)
 }
 
 #[no_mangle]
@@ -66,10 +60,7 @@ pub extern "C" fn outside_bytes_repair(text: &[u8], out: &mut [u8], says: &mut [
     if says.len() < telling::ROOM {
         return telling::NOT_CALLED;
     }
-    telling::tell(
-        telling::say_written(convert::from_bytes::repair(text, out)),
-        says,
-    )
+    telling::tell(telling::say_written(from_bytes::repair(text, out)), says)
 }
 
 #[no_mangle]
@@ -92,7 +83,7 @@ pub extern "C" fn outside_bytes_repair_to_units(
         return telling::NOT_CALLED;
     }
     telling::tell(
-        telling::say_written(convert::from_bytes::repair_to_units(text, out)),
+        telling::say_written(from_bytes::repair_to_units(text, out)),
         says,
     )
 }
@@ -112,10 +103,7 @@ pub extern "C" fn outside_units_to_bytes(text: &[u16], out: &mut [u8], says: &mu
     if says.len() < telling::ROOM {
         return telling::NOT_CALLED;
     }
-    telling::tell(
-        telling::say_written(convert::from_units::to_bytes(text, out)),
-        says,
-    )
+    telling::tell(telling::say_written(from_units::to_bytes(text, out)), says)
 }
 
 #[no_mangle]
@@ -133,10 +121,7 @@ pub extern "C" fn outside_units_to_codes(text: &[u16], out: &mut [u32], says: &m
     if says.len() < telling::ROOM {
         return telling::NOT_CALLED;
     }
-    telling::tell(
-        telling::say_written(convert::from_units::to_codes(text, out)),
-        says,
-    )
+    telling::tell(telling::say_written(from_units::to_codes(text, out)), says)
 }
 
 #[no_mangle]
@@ -154,10 +139,7 @@ pub extern "C" fn outside_units_repair(text: &[u16], out: &mut [u16], says: &mut
     if says.len() < telling::ROOM {
         return telling::NOT_CALLED;
     }
-    telling::tell(
-        telling::say_written(convert::from_units::repair(text, out)),
-        says,
-    )
+    telling::tell(telling::say_written(from_units::repair(text, out)), says)
 }
 
 #[no_mangle]
@@ -180,7 +162,7 @@ pub extern "C" fn outside_units_repair_to_bytes(
         return telling::NOT_CALLED;
     }
     telling::tell(
-        telling::say_written(convert::from_units::repair_to_bytes(text, out)),
+        telling::say_written(from_units::repair_to_bytes(text, out)),
         says,
     )
 }
@@ -200,10 +182,7 @@ pub extern "C" fn outside_points_to_bytes(text: &[u32], out: &mut [u8], says: &m
     if says.len() < telling::ROOM {
         return telling::NOT_CALLED;
     }
-    telling::tell(
-        telling::say_written(convert::from_points::to_bytes(text, out)),
-        says,
-    )
+    telling::tell(telling::say_written(from_points::to_bytes(text, out)), says)
 }
 
 #[no_mangle]
@@ -225,8 +204,5 @@ pub extern "C" fn outside_points_to_units(
     if says.len() < telling::ROOM {
         return telling::NOT_CALLED;
     }
-    telling::tell(
-        telling::say_written(convert::from_points::to_units(text, out)),
-        says,
-    )
+    telling::tell(telling::say_written(from_points::to_units(text, out)), says)
 }

@@ -1,142 +1,154 @@
--- Segments that act: one after another, and with what is promised of the places, the sums and the list each time.
+-- Segments that act: where there is room for all of them, they do what the log says.
 -- Assumes nothing.
-use mathlib.Core.Path.{_≡_, refl, sym, ap, _∙_}
-use Prim.Native.Nat.{ℕ, _+_, _≤_}
-use mathlib.Core.List.{List, [], _++_, append-assoc, foldl-append}
+use mathlib.Core.Path.{_≡_, refl, sym, ap, subst, _∙_}
+use Prim.Native.Nat.{ℕ, _+_, _*_, _≤_}
+use native.Mathlib.Nat.{add-zero}
+use mathlib.Core.List.{List, [], _∷_, _++_, foldl}
 use lib.ListN.{length, take, drop, length-append, length-drop}
-use lib.Seq.{drop-drop, take-at, drop-at, length-take-le, length-sets}
+use lib.Seq.{drop-drop, take-at, drop-at, take-length, length-take-le, length-sets}
 use native.Mathlib.Omega.{arith}
-use Rattle.division.specs.Reader.{Segment, Parts}
+use Rattle.division.specs.Reader.{Segment, body}
 use Rattle.division.specs.Table.{Kind, isDamage}
-use Rattle.division.specs.Tally.{written, total, size, Log}
-use Rattle.division.proofs.Dividing.{written-append}
-use Rattle.division.proofs.Tallying.{whole-damaged, count-damaged, store-is, logged, log-is}
+use Rattle.division.specs.Tally.{total, size, Log}
+use Rattle.division.proofs.Cases.{split}
+use Rattle.division.proofs.Tallying.{store-is}
 use Rattle.terms.specs.Form.{mend}
 use Rattle.terms.specs.Limits.{limit}
-use Rattle.terms.specs.declared.First.{First}
-use Rattle.terms.specs.declared.First.the-variants.{Nothing, Whole, Damage, Begun}
-use Rattle.terms.proofs.Walking.{part-is}
-use Rattle.terms.proofs.Writing.{lent, back, back-is}
 use Rattle.utf8.specs.Scalar.{utf8}
-use Rattle.repair.specs.State.{numbers}
-use Rattle.repair.specs.Steps.{settled, firstNeed, need, settledSize, form, places, notes, added, stored, logOf, Ready, Acts}
-use Rattle.repair.specs.declared.Tally.{Tally}
-use Rattle.repair.proofs.Settling.{settled-parts, settled-inside, Told}
+use Rattle.pending.specs.Tail.{settledSize}
+use Rattle.tally.specs.Acting.{form, places, numbers, notes, stored, added, Work, work, acted}
+use Rattle.tally.specs.declared.Tally.{Tally}
+use Rattle.tally.proofs.Fitting.{Fits, acted-is}
+use Rattle.settling.specs.Settling.{need, toldAs, actedAll}
+use Rattle.repair.specs.State.{act}
 
-pub added-written : (r : First) (t : Tally) → added r t .written ≡ t .written + places r
-added-written Nothing t = omega arith
-added-written (Whole n) t = refl
-added-written (Damage n) t = refl
-added-written (Begun n) t = omega arith
+-- a tally, the output as far as it is written, and the list
+abbrev logged : Tally → List ℕ → List ℕ → Log
+logged t out list = record { whole = t .whole; damaged = t .damaged; count = t .count; out = out; list = list }
 
--- ---- one run of segments behind another
+abbrev pub logOf : Work → Log
+logOf w = logged (w .tally) (take (w .tally .written) (w .out)) (w .list)
 
-pub acts-none : (room : ℕ) (t : Tally) (out list : List ℕ) → Acts room [] t out list t out list
-acts-none room t out list = record { kept = refl; grown = omega arith; long = refl; same = refl }
+-- there is room for these segments, and no sum goes over the limit
+pub record Ready (room : ℕ) (ss : List (Segment Kind)) (w : Work) : Type 0 where
+  pub enough : w .tally .written + need ss ≤ length (w .out)
+  pub row : 2 * room ≤ length (w .list)
+  pub sums : w .tally .whole + w .tally .damaged + total size ss ≤ limit
+  pub counts : w .tally .count ≤ w .tally .damaged
 
-module _ {room : ℕ} {ss ts : List (Segment Kind)} {t r q : Tally} {out list out′ list′ out″ list″ : List ℕ} where
-  pub acts-append : Acts room ss t out list r out′ list′ → Acts room ts r out′ list′ q out″ list″ → Acts room (ss ++ ts) t out list q out″ list″
-  acts-append a b =
-      let l : q .written ≡ r .written + length (written (mend utf8) ts) = b .grown in
+-- they have acted, and places of the output behind what is written keep what they held
+pub record Acts (room : ℕ) (ss : List (Segment Kind)) (w v : Work) : Type 0 where
+  pub kept : logOf v ≡ foldl (act room) (logOf w) ss
+  pub grown : v .tally .written ≡ w .tally .written + need ss
+  pub same : drop (v .tally .written) (v .out) ≡ drop (v .tally .written) (w .out)
+
+-- ---- one segment
+
+module _ (s : Segment Kind) where
+  told-size : settledSize (toldAs s) ≡ size s
+  told-size = split (isDamage (s .tag)) (λ e. rw e) (λ e. rw e)
+
+  told-places : places (toldAs s) ≡ length (mend utf8 s)
+  told-places = split (isDamage (s .tag)) (λ e. rw e) (λ e. rw e)
+
+  told-form : form (toldAs s) (body s) ≡ mend utf8 s
+  told-form = split (isDamage (s .tag)) (λ e. rw e) (λ e. rw e (take-length (body s)))
+
+  told-added : (t : Tally) → added (toldAs s) t .written ≡ t .written + length (mend utf8 s)
+  told-added t = split (isDamage (s .tag)) (λ e. rw e) (λ e. rw e)
+
+  told-sums : (t : Tally) → added (toldAs s) t .whole + added (toldAs s) t .damaged ≡ t .whole + t .damaged + size s
+  told-sums t = split (isDamage (s .tag)) (λ e. rw e (omega arith)) (λ e. rw e (omega arith))
+
+  told-counts : (t : Tally) → t .count ≤ t .damaged → 1 ≤ size s → added (toldAs s) t .count ≤ added (toldAs s) t .damaged
+  told-counts t h k = split (isDamage (s .tag)) (λ e. rw e (omega arith)) (λ e. rw e h)
+
+  told-logged : (room : ℕ) (t : Tally) (out list : List ℕ)
+      → logged (added (toldAs s) t) (out ++ mend utf8 s) (stored room list (t .count) (notes (toldAs s) (t .whole + t .damaged)))
+      ≡ act room (logged t out list) s
+  told-logged room t out list = split (isDamage (s .tag)) (λ e. rw (e, add-zero)) (λ e. rw (e, add-zero, add-zero))
+
+-- it has acted, and no length has changed
+record Turn (room : ℕ) (s : Segment Kind) (w v : Work) : Type 0 where
+  log-is : logOf v ≡ act room (logOf w) s
+  written-is : v .tally .written ≡ w .tally .written + length (mend utf8 s)
+  same : drop (v .tally .written) (v .out) ≡ drop (v .tally .written) (w .out)
+  long : length (v .out) ≡ length (w .out)
+  row : length (v .list) ≡ length (w .list)
+  sums : v .tally .whole + v .tally .damaged ≡ w .tally .whole + w .tally .damaged + size s
+  counts : v .tally .count ≤ v .tally .damaged
+
+module _ (room : ℕ) (s : Segment Kind) (ss : List (Segment Kind)) (w : Work) (r : Ready room (s ∷ ss) w) where
+  abbrev t : Tally
+  t = w .tally
+
+  abbrev front : List ℕ
+  front = take (t .written) (w .out) ++ mend utf8 s
+
+  need-is : need (s ∷ ss) ≡ length (mend utf8 s) + need ss
+  need-is = length-append (mend utf8 s) _
+
+  front-long : length front ≡ t .written + length (mend utf8 s)
+  front-long =
+      length-append (take (t .written) (w .out)) (mend utf8 s) ∙ rw (length-take-le (t .written) (w .out) (omega (arith, r .enough)))
+
+  fit : Fits room (toldAs s) t (length (body s)) (length (w .out)) (length (w .list))
+  fit = record {
+    inside = omega (arith, told-size s);
+    enough = omega (arith, r .enough, told-places s, need-is);
+    list = r .row;
+    sums = omega (arith, r .sums, told-size s);
+    counts = r .counts;
+  }
+
+  -- the work behind the segment
+  abbrev next : Work
+  next = work (added (toldAs s) t) (front ++ drop (t .written + length (mend utf8 s)) (w .out))
+      (stored room (w .list) (t .count) (notes (toldAs s) (t .whole + t .damaged)))
+
+  next-is : acted room (toldAs s) (body s) w ≡ next
+  next-is = acted-is room (toldAs s) (body s) t (w .out) (w .list) fit ∙ rw (told-form s, told-places s)
+
+  turn-next : Turn room s w next
+  turn-next =
+      let i : ℕ = t .written + length (mend utf8 s) in
+      let e : added (toldAs s) t .written ≡ i = told-added s t in
       record {
-        kept = b .kept ∙ rw (foldl-append, ← a .kept);
-        grown = rw (written-append (mend utf8) ss ts, length-append) (omega (arith, a .grown, l));
-        long = b .long ∙ a .long;
-        same = b .same ∙ rw (l, ← drop-drop (length (written (mend utf8) ts)) (r .written) out′, a .same, drop-drop);
+        log-is = rw (e, take-at front (drop i (w .out)) i front-long) (told-logged s room t (take (t .written) (w .out)) (w .list));
+        written-is = e;
+        same = rw (e) (drop-at front (drop i (w .out)) i front-long);
+        long = length-append front (drop i (w .out)) ∙ rw front-long (omega (arith, r .enough, need-is, length-drop i (w .out)));
+        row = rw (store-is numbers 2 room (λ e. refl), length-sets);
+        sums = told-sums s t;
+        counts = told-counts s t (r .counts) (omega arith);
       }
 
--- ---- what the totals become
+  turn : Turn room s w (acted room (toldAs s) (body s) w)
+  turn = subst (Turn room s w) (sym next-is) turn-next
 
-module _ {room : ℕ} {ss : List (Segment Kind)} {t r : Tally} {out list out′ list′ : List ℕ} (a : Acts room ss t out list r out′ list′) where
-  kept-is : logOf r out′ list′ ≡ logged isDamage (mend utf8) numbers 2 room (logOf t out list) ss
-  kept-is = a .kept ∙ log-is isDamage (mend utf8) numbers 2 room (logOf t out list) ss
+-- ---- all of them
 
-  pub acts-sums : r .whole + r .damaged ≡ t .whole + t .damaged + total size ss
-  acts-sums =
-      omega (
-        arith,
-        ap (λ (l : Log). l .whole) kept-is,
-        ap (λ (l : Log). l .damaged) kept-is,
-        whole-damaged isDamage ss,
-      )
+module _ (room : ℕ) where
+  ready-next : (s : Segment Kind) (ss : List (Segment Kind)) (w : Work) → Ready room (s ∷ ss) w → Ready room ss (acted room (toldAs s) (body s) w)
+  ready-next s ss w r =
+      let v = turn room s ss w r in
+      record {
+        enough = omega (arith, r .enough, need-is room s ss w r, v .written-is, v .long);
+        row = omega (arith, r .row, v .row);
+        sums = omega (arith, r .sums, v .sums);
+        counts = v .counts;
+      }
 
-  pub acts-counts : t .count ≤ t .damaged → r .count ≤ r .damaged
-  acts-counts h =
-      omega (
-        arith,
-        ap (λ (l : Log). l .count) kept-is,
-        ap (λ (l : Log). l .damaged) kept-is,
-        count-damaged isDamage ss,
-      )
-
-  pub acts-row : length list′ ≡ length list
-  acts-row = rw (ap (λ (l : Log). l .list) kept-is, store-is numbers 2 room (λ e. refl), length-sets)
-
--- ---- a text's settled segment, and then the others
-
-pub told-places : {r : First} {text : List ℕ} → Told r text → places r ≡ firstNeed text
-unfolding firstNeed
-told-places d = d .places-is
-
-pub need-is : (text : List ℕ) → need text ≡ firstNeed text + need (drop (total size (settled text)) text)
-unfolding firstNeed need
-need-is text =
-    ap (λ (p : Parts Kind). length (written (mend utf8) (p .done))) (settled-parts text)
-    ∙ rw (written-append (mend utf8) (settled text), length-append)
-
-module _ {room : ℕ} {t : Tally} {text out list : List ℕ} where
-  module _ (h : Ready room t text (need text) out list) where
-    pub ready-step : Ready room t text (firstNeed text) out list
-    ready-step = record { enough = omega (arith, h .enough, need-is text); row = h .row; sums = h .sums; counts = h .counts }
-
-    pub ready-next : {r : Tally} {out′ list′ : List ℕ} → Acts room (settled text) t out list r out′ list′
-        → Ready room r (drop (total size (settled text)) text) (need (drop (total size (settled text)) text)) out′ list′
-    unfolding firstNeed
-    ready-next a = record {
-      enough = omega (arith, h .enough, need-is text, a .grown, a .long);
-      row = omega (arith, h .row, acts-row a);
-      sums = omega (arith, h .sums, acts-sums a, settled-inside text, length-drop (total size (settled text)) text);
-      counts = acts-counts a (h .counts);
-    }
-
-  -- what the reader told of the text has places in the rest of the output, and acts
-  module _ (h : Ready room t text (firstNeed text) out list) {r : First} (d : Told r text) where
-    pub step-places : t .written + places r ≤ length out
-    unfolding firstNeed
-    step-places = omega (arith, h .enough, d .places-is)
-
-    pub step-sums : t .whole + t .damaged + settledSize r ≤ limit
-    step-sums = omega (arith, h .sums, settled-inside text, d .size-is)
-
-    pub step-inside : settledSize r ≤ length text
-    step-inside = omega (arith, settled-inside text, d .size-is)
-
-    pub step-lent : places r ≤ length (lent out (t .written))
-    step-lent = omega (arith, step-places, ap length (part-is out (t .written)), length-drop (t .written) out)
-
-    front : List ℕ
-    front = take (t .written) out ++ form r text
-
-    front-long : length front ≡ t .written + places r
-    unfolding front
-    front-long =
-        length-append (take (t .written) out) (form r text)
-        ∙ rw (length-take-le (t .written) out (omega (arith, step-places)), d .form-is, d .places-is)
-
-    pub step-acts : (ys list′ : List ℕ) → ys ≡ form r text ++ drop (places r) (lent out (t .written))
-        → list′ ≡ stored room list (t .count) (notes r (t .whole + t .damaged))
-        → Acts room (settled text) t out list (added r t) (back out (t .written) ys) list′
-    unfolding front
-    step-acts ys list′ e l =
-        let w : ℕ = t .written in
-        let i : added r t .written ≡ w + places r = added-written r t in
-        let b : back out w ys ≡ front ++ drop (w + places r) out
-        = back-is out w ys
-        ∙ rw (e, part-is out w, drop-drop (places r) w out) (sym (append-assoc (take w out) (form r text) (drop (w + places r) out))) in
-        let f : take (added r t .written) (back out w ys) ≡ front = rw (i, b) (take-at front (drop (w + places r) out) (w + places r) front-long) in
-        record {
-          kept = rw (f, l) (d .acts room t (take w out) list);
-          grown = i ∙ rw (d .places-is);
-          long = rw (b, length-append, front-long) (omega (arith, step-places, length-drop (w + places r) out));
-          same = rw (i, b) (drop-at front (drop (w + places r) out) (w + places r) front-long);
-        }
+  pub acts-all : (ss : List (Segment Kind)) (w : Work) → Ready room ss w → Acts room ss w (actedAll room w ss)
+  acts-all [] w r = record { kept = refl; grown = omega arith; same = refl }
+  acts-all (s ∷ ss) w r =
+      let x = acted room (toldAs s) (body s) w in
+      let v = turn room s ss w r in
+      let a = acts-all ss x (ready-next s ss w r) in
+      let y = actedAll room x ss in
+      let i : y .tally .written ≡ x .tally .written + need ss = a .grown in
+      record {
+        kept = a .kept ∙ ap (λ (l : Log). foldl (act room) l ss) (v .log-is);
+        grown = omega (arith, i, v .written-is, need-is room s ss w r);
+        same = a .same ∙ rw (i, ← drop-drop (need ss) (x .tally .written) (x .out), v .same, drop-drop);
+      }

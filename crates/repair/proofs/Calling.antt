@@ -6,7 +6,7 @@ use native.Mathlib.Nat.{zero-add, mul-zero, sub-zero}
 use mathlib.Core.Bool.{Bool, true, false, cond, true≢false}
 use mathlib.Core.List.{List, [], _∷_, _++_, append-assoc, append-nil, foldl, foldl-append}
 use lib.ListN.{length, getD, take, drop, length-append}
-use lib.Seq.{take-at, take-take}
+use lib.Seq.{take-at}
 use lib.Dec.{ltb, eqb}
 use borrow.Author.Tests.{ltb-false}
 use native.Mathlib.Omega.{arith}
@@ -27,14 +27,14 @@ use Rattle.terms.specs.declared.Decoder.{Decoder}
 use Rattle.utf8.specs.Bytes.{bytes}
 use Rattle.utf8.specs.Scalar.{utf8}
 use Rattle.utf8.proofs.Rows.{bytes-division, damage-short}
-use Rattle.utf8.specs.Pending.{zeros}
+use Rattle.pending.proofs.Settling.{left-short}
+use Rattle.pending.proofs.Holding.{held-back, held-zeros}
+use Rattle.soundness.proofs.Testing.{Balanced, is-sound}
 use Rattle.repair.specs.State.{left, sound, numbers, act, opened, fed, ended, closed}
 use Rattle.terms.specs.Told.{ifGranted}
 use Rattle.repair.specs.Feeding.{feedSays, Feeds, finishSays, Finishes}
 use Rattle.repair.specs.Feeding as feeding
 use Rattle.repair.specs.Course.{Call, Course, begun, wrote, called, course, listed, Holds, Ends}
-use Rattle.repair.proofs.Passing.{left-short}
-use Rattle.repair.proofs.Testing.{Balanced, is-sound}
 
 -- ---- the action on a log whose output is not empty
 
@@ -51,21 +51,11 @@ acts-behind room l ss =
 
 -- ---- the pieces
 
-join-more : (ps : List (List ℕ)) (p : List ℕ) → join (ps ++ p ∷ []) ≡ join ps ++ p
+pub join-more : (ps : List (List ℕ)) (p : List ℕ) → join (ps ++ p ∷ []) ≡ join ps ++ p
 join-more [] p = append-nil p
 join-more (q ∷ ps) p = rw (join-more ps p, append-assoc)
 
 -- ---- the state that the joined text says
-
-pub held-back : (rest : List ℕ) → length rest ≤ 3 → take (length rest) (take 3 (rest ++ 0 ∷ 0 ∷ 0 ∷ [])) ≡ rest
-held-back rest h = take-take (length rest) 3 (rest ++ 0 ∷ 0 ∷ 0 ∷ []) h ∙ take-at rest (0 ∷ 0 ∷ 0 ∷ []) (length rest) refl
-
-pub held-zeros : (rest : List ℕ) → length rest ≤ 3 → zeros (drop (length rest) (take 3 (rest ++ 0 ∷ 0 ∷ 0 ∷ []))) ≡ true
-held-zeros [] h = refl
-held-zeros (a ∷ []) h = refl
-held-zeros (a ∷ b ∷ []) h = refl
-held-zeros (a ∷ b ∷ c ∷ []) h = refl
-held-zeros (a ∷ b ∷ c ∷ d ∷ rest) h = absurd (omega arith)
 
 module _ (room : ℕ) (row : List ℕ) where
   abbrev start : Log
@@ -142,16 +132,19 @@ module _ (room : ℕ) (row : List ℕ) where
 
 -- ---- what is granted has passed each check
 
-Granted : List ℕ → Type 0
-Granted says = eqb (getD says 0 0) 0 ≡ true
+abbrev pub isGranted : List ℕ → Bool
+isGranted says = eqb (getD says 0 0) 0
 
 module _ (d : Decoder) (piece out list : List ℕ) where
   abbrev fedForm : List ℕ
   fedForm = fed d piece list .kept .out
 
-  feed-grants : Granted (feedSays d piece out list)
-      → (d .taken + length piece ≤ limit) × (feedSays d piece out list ≡ 0 ∷ length fedForm ∷ [])
-  unfolding Granted
+  pub record FeedGrants : Type 0 where
+    pub within : d .taken + length piece ≤ limit
+    pub fits : length fedForm ≤ length out
+    pub says : feedSays d piece out list ≡ 0 ∷ length fedForm ∷ []
+
+  pub feed-grants : isGranted (feedSays d piece out list) ≡ true → FeedGrants
   feed-grants g = split (sound d)
       (λ s.
       split (ltb limit (d .taken + length piece))
@@ -162,16 +155,23 @@ module _ (d : Decoder) (piece out list : List ℕ) where
       (λ k.
       split (ltb (length out) (length fedForm))
       (λ n. absurd (true≢false (sym (rw (s, o, k, n) at g))))
-      (λ n. (ltb-false limit (d .taken + length piece) o, rw (s, o, k, n))))))
+      (λ n. record {
+        within = ltb-false limit (d .taken + length piece) o;
+        fits = ltb-false (length out) (length fedForm) n;
+        says = rw (s, o, k, n);
+      }))))
       (λ s. absurd (true≢false (sym (rw s at g))))
 
 module _ (d : Decoder) (out list : List ℕ) where
   abbrev endLog : Log
   endLog = ended d list
 
-  finish-grants : Granted (finishSays d out list)
-      → finishSays d out list ≡ 0 ∷ length (endLog .out) ∷ endLog .whole ∷ endLog .damaged ∷ endLog .count ∷ []
-  unfolding Granted
+  pub record FinishGrants : Type 0 where
+    pub long : 2 * d .room ≤ length list
+    pub fits : length (endLog .out) ≤ length out
+    pub says : finishSays d out list ≡ 0 ∷ length (endLog .out) ∷ endLog .whole ∷ endLog .damaged ∷ endLog .count ∷ []
+
+  pub finish-grants : isGranted (finishSays d out list) ≡ true → FinishGrants
   finish-grants g = split (sound d)
       (λ s.
       split (ltb (length list) (2 * d .room))
@@ -179,7 +179,11 @@ module _ (d : Decoder) (out list : List ℕ) where
       (λ k.
       split (ltb (length out) (length (endLog .out)))
       (λ n. absurd (true≢false (sym (rw (s, k, n) at g))))
-      (λ n. rw (s, k, n))))
+      (λ n. record {
+        long = ltb-false (length list) (2 * d .room) k;
+        fits = ltb-false (length out) (length (endLog .out)) n;
+        says = rw (s, k, n);
+      })))
       (λ s. absurd (true≢false (sym (rw s at g))))
 
 -- a state that passes its tests is not refused 8
@@ -246,18 +250,16 @@ module _ (room : ℕ) (row : List ℕ) where
       written-is = rw (join-more (r .pieces) (c .piece), f .state-is, f .list-is, f .written-is) (next-out room row text (c .piece));
     }
 
-    follows-granted : Granted says → Follows (called r c)
-    unfolding Granted
+    follows-granted : isGranted says ≡ true → Follows (called r c)
     follows-granted g =
         let h = feed-grants (r .state) (c .piece) (c .out) (r .list) g in
         let e : called r c ≡ gone (stream .kept .out)
         = ap (λ (b : Bool). cond b (gone (wrote says (stream .kept .out) (c .out))) r) g
-        ∙ ap gone (wrote-is says (stream .kept .out) (c .out) (h .1)) in
-        subst Follows (sym e) (follows-gone (h .0))
+        ∙ ap gone (wrote-is says (stream .kept .out) (c .out) (h .says)) in
+        subst Follows (sym e) (follows-gone (h .within))
 
     follows-next : Follows (called r c)
-    unfolding Granted
-    follows-next = split (eqb (getD says 0 0) 0) follows-granted
+    follows-next = split (isGranted says) follows-granted
         (λ e. subst Follows (sym (ap (λ (b : Bool). cond b (gone (wrote says (stream .kept .out) (c .out))) r) e)) f)
 
   follows-all : (r : Course) (cs : List Call) → Follows r → Follows (foldl called r cs)
@@ -291,14 +293,13 @@ module _ (room : ℕ) (row : List ℕ) where
   pub course-ends : (cs : List Call) (out out′ list′ : List ℕ) (q : Finished)
       → Finishes (course room row cs .state) out (course room row cs .list) out′ list′ q
       → eqb (getD (feeding.total (q .answer)) 0 0) 0 ≡ true → Ends room row (course room row cs) out′ list′ q
-  unfolding Granted
   course-ends cs out out′ list′ q h granted =
       let r = course room row cs in
       let f = follows cs in
       let t : List ℕ = join (r .pieces) in
       let l : Log = ended (r .state) (r .list) in
-      let g : Granted (finishSays (r .state) out (r .list)) = rw (h .answer) at granted in
-      let says = finish-grants (r .state) out (r .list) g in
+      let g : isGranted (finishSays (r .state) out (r .list)) ≡ true = rw (h .answer) at granted in
+      let says = finish-grants (r .state) out (r .list) g .says in
       let e : behindOf (r .written) l ≡ logged isDamage (mend utf8) numbers 2 room (start room row) (cut bytes t)
       = rw (f .state-is, f .list-is, f .written-is) (ended-step room row t) in
       let z : freshOf (r .state .room) ≡ freshOf room = rw (f .state-is) in

@@ -1,46 +1,53 @@
 -- What finish answers: pending bytes are one damage, and each way through its checks meets the promise.
 -- Assumes nothing.
 use mathlib.Core.Path.{_≡_, refl, sym, _∙_}
-use Prim.Native.Nat.{ℕ, _+_, _*_, _≤_, _<_}
-use native.Mathlib.Nat.{add-zero}
-use mathlib.Core.Bool.{true, false, true≢false}
+use Prim.Native.Nat.{ℕ, _+_, _≤_, _<_}
+use native.Mathlib.Nat.{zero-add, add-zero}
+use mathlib.Core.Bool.{true, false, cond, true≢false}
 use mathlib.Core.List.{List, [], _∷_, _++_, foldl}
 use lib.ListN.{length, drop}
-use borrow.Author.Tests.{not-true, lt-ltb, le-ltb}
+use lib.Dec.{ltb, eqb}
+use borrow.Author.Tests.{not-true, eqb-true, ne-eqb, lt-ltb, le-ltb}
 use native.Mathlib.Omega.{arith}
 use Rattle.division.specs.Reader.{cut, pending}
 use Rattle.division.specs.Table.{Kind, whole, damage, isDamage}
 use Rattle.division.specs.Tally.{Log}
 use Rattle.division.proofs.Cases.{split}
 use Rattle.division.proofs.Dividing.{cut-nil, cut-pending}
-use Rattle.terms.specs.Form.{replacement}
 use Rattle.terms.specs.Limits.{limit, freshOf}
 use Rattle.terms.specs.Told.{refusal}
 use Rattle.terms.specs.declared.Decoder.{Decoder}
+use Rattle.terms.specs.declared.First.{First}
 use Rattle.terms.specs.declared.Refusal.{Refusal}
-use Rattle.terms.specs.declared.Refusal.the-variants.{NoRoom, ListRoom, BadState}
+use Rattle.terms.specs.declared.Refusal.the-variants.{NoRoom}
 use Rattle.terms.proofs.Telling.{no-zero}
 use Rattle.utf8.specs.Bytes.{bytes}
-use Rattle.utf8.specs.Scalar.{utf8}
 use Rattle.utf8.proofs.Rows.{bytes-division, bytes-hold, whole-sure}
+use Rattle.pending.specs.Tail.{settledSize}
+use Rattle.soundness.specs.Checks.{admitted, admitSays}
+use Rattle.soundness.proofs.Testing.{Sound, sound-is}
+use Rattle.soundness.proofs.Admitting.{Admits, admits, admitted-then, refused-so}
+use Rattle.tally.specs.Acting.{form, places, notes, stored, added, Work, work, acted}
+use Rattle.tally.proofs.Fitting.{Fits, acted-is}
 use Rattle.repair.specs.State.{left, sound, act, opened, ended}
 use Rattle.repair.specs.Feeding.{finishSays, Finishes}
-use Rattle.repair.specs.Steps.{entry, stored, Ends}
+use Rattle.repair.specs.Steps.{tallyOf, lastOf}
 use Rattle.repair.specs.declared.Total.the-variants.{Given, Refused}
-use Rattle.repair.proofs.Testing.{Sound, sound-is}
-use Rattle.repair.proofs.Seaming.{left-long}
+use Rattle.repair.proofs.Joining.{left-long}
 
 -- ---- what is pending at the end
 
--- damage of n bytes, as the last segment
-abbrev damaged : Decoder → List ℕ → ℕ → Log
-damaged d list n = record {
-  whole = d .whole;
-  damaged = d .damaged + n;
-  count = d .count + 1;
-  out = utf8 .write replacement;
-  list = stored (d .room) list (d .count) (entry (d .whole + d .damaged) n ∷ []);
-}
+-- the log behind the last segment, as it is told
+abbrev logAs : Decoder → List ℕ → First → Log
+logAs d list seg =
+    let t = added seg (tallyOf d) in
+    record {
+      whole = t .whole;
+      damaged = t .damaged;
+      count = t .count;
+      out = form seg [];
+      list = stored (d .room) list (d .count) (notes seg (d .whole + d .damaged));
+    }
 
 damage-is : (k : Kind) → isDamage k ≡ true → k ≡ damage
 damage-is whole e = absurd (true≢false (sym e))
@@ -52,67 +59,95 @@ pending-damage x xs e = split (isDamage (bytes x xs .tag))
     (damage-is (bytes x xs .tag))
     (λ w. absurd (true≢false (sym (whole-sure x xs w) ∙ e)))
 
-pending-acts : (d : Decoder) (list held : List ℕ) → pending bytes held ≡ true → (length held ≡ 0 → ⊥)
-    → foldl (act (d .room)) (opened d list .kept) (cut bytes held) ≡ damaged d list (length held)
-pending-acts d list [] p n = absurd (n refl)
-pending-acts d list (x ∷ xs) p n =
+last-acts : (d : Decoder) (list tail : List ℕ) → pending bytes tail ≡ true
+    → foldl (act (d .room)) (opened d list .kept) (cut bytes tail) ≡ logAs d list (lastOf (length tail))
+last-acts d list [] p = rw cut-nil
+last-acts d list (x ∷ xs) p =
     let e : bytes x xs .sure ≡ false = not-true (bytes x xs .sure) p in
-    rw (cut-pending bytes-division 3 bytes-hold x xs e, pending-damage x xs e, add-zero)
+    let n : eqb (length (x ∷ xs)) 0 ≡ false = ne-eqb (length (x ∷ xs)) 0 (λ z. omega (arith, z)) in
+    rw (cut-pending bytes-division 3 bytes-hold x xs e, pending-damage x xs e, n, add-zero)
 
-none-acts : (d : Decoder) (list held : List ℕ) → length held ≡ 0 → foldl (act (d .room)) (opened d list .kept) (cut bytes held) ≡ opened d list .kept
-none-acts d list [] n = rw cut-nil
-none-acts d list (x ∷ xs) n = absurd (omega arith)
+last-size : (n : ℕ) → settledSize (lastOf n) ≡ n
+last-size n = split (eqb n 0) (λ e. rw e (sym (eqb-true n 0 e))) (λ e. rw e)
+
+last-form : (n : ℕ) (text : List ℕ) → form (lastOf n) text ≡ form (lastOf n) []
+last-form n text = split (eqb n 0) (λ e. rw e) (λ e. rw e)
+
+last-places : (n : ℕ) → places (lastOf n) ≡ length (form (lastOf n) [])
+last-places n = split (eqb n 0) (λ e. rw e) (λ e. rw e)
+
+last-written : (n : ℕ) (d : Decoder) → added (lastOf n) (tallyOf d) .written ≡ places (lastOf n)
+last-written n d = split (eqb n 0) (λ e. rw e) (λ e. rw e (omega arith))
 
 -- ---- the checks, in their order
 
+-- what finish says once it is admitted
+abbrev saysOf : Log → List ℕ → List ℕ
+saysOf l out =
+    cond (ltb (length out) (length (l .out))) (3 ∷ length (l .out) ∷ []) (0 ∷ length (l .out) ∷ l .whole ∷ l .damaged ∷ l .count ∷ [])
+
+-- no byte more is taken, so that refusal 2 is never given
+checks-are : (d : Decoder) (out list : List ℕ) → admitted d 0 (length list) (saysOf (ended d list) out) ≡ finishSays d out list
+checks-are d out list = split (sound d)
+    (λ s. let b = sound-is d s .numbers in rw (s, le-ltb limit (d .taken + 0) (omega (arith, b .within))))
+    (λ s. rw s)
+
 module _ (d : Decoder) (out list : List ℕ) where
-  finish-refused : (r : Refusal) → refusal r ≡ finishSays d out list → Finishes d out list out list (record { answer = Refused r; state = d })
-  finish-refused r e = record { answer = e; state = rw (← e, no-zero r); output = rw (← e, no-zero r); entries = rw (← e, no-zero r) }
+  finish-so : (r : Refusal) → refusal r ≡ finishSays d out list → Finishes d out list out list (record { answer = Refused r; state = d })
+  finish-so r e = record { answer = e; state = rw (← e, no-zero r); output = rw (← e, no-zero r); entries = rw (← e, no-zero r) }
 
-  pub finish-unsound : sound d ≡ false → Finishes d out list out list (record { answer = Refused BadState; state = d })
-  finish-unsound s = finish-refused BadState (rw s)
+  pub finish-refused : (r : Refusal) → refusal r ≡ admitSays d 0 (length list) → Finishes d out list out list (record { answer = Refused r; state = d })
+  finish-refused r q = finish-so r (refused-so d 0 (length list) r q (saysOf (ended d list) out) ∙ checks-are d out list)
 
-  module _ (s : sound d ≡ true) where
-    pub finish-list : length list < 2 * d .room → Finishes d out list out list (record { answer = Refused ListRoom; state = d })
-    finish-list k = finish-refused ListRoom (rw (s, lt-ltb (length list) (2 * d .room) k))
+  module _ (three : length (d .held) ≡ 3) (g : admitSays d 0 (length list) ≡ 0 ∷ []) where
+    granted : Admits d 0 (length list)
+    granted = admits d 0 (length list) (sym g)
 
-    module _ (k : 2 * d .room ≤ length list) (l : Log) (e : ended d list ≡ l) where
-      finish-short : length out < length (l .out) → Finishes d out list out list (record { answer = Refused (NoRoom (length (l .out))); state = d })
-      finish-short h =
-          finish-refused (NoRoom (length (l .out)))
-          (rw (s, le-ltb (length list) (2 * d .room) k, e, lt-ltb (length out) (length (l .out)) h))
+    passes : Sound d
+    passes = sound-is d (granted .tests)
 
-      finish-done : length (l .out) ≤ length out → (q : Decoder) → q ≡ freshOf (d .room)
-          → Finishes d out list (l .out ++ drop (length (l .out)) out) (l .list)
-          (record { answer = Given (length (l .out)) (l .whole) (l .damaged) (l .count); state = q })
-      finish-done h q f =
-          let says : finishSays d out list ≡ 0 ∷ length (l .out) ∷ l .whole ∷ l .damaged ∷ l .count ∷ []
-          = rw (s, le-ltb (length list) (2 * d .room) k, e, le-ltb (length out) (length (l .out)) h) in
-          record { answer = rw says; state = rw says f; output = rw (says, e); entries = rw (says, e) }
+    abbrev seg : First
+    seg = lastOf (d .pending)
 
-    -- nothing is pending
-    pub finish-none : 2 * d .room ≤ length list → d .pending ≡ 0 → (q : Decoder) → q ≡ freshOf (d .room)
-        → Finishes d out list out list (record { answer = Given 0 (d .whole) (d .damaged) (d .count); state = q })
-    finish-none k z = finish-done k (opened d list .kept) (none-acts d list (left d) (rw z)) (omega arith)
+    ended-is : ended d list ≡ logAs d list seg
+    ended-is = last-acts d list (left d) (passes .begins) ∙ rw (left-long d three passes)
 
--- some bytes are pending
-module _ (d : Decoder) (out list : List ℕ) (h : Ends d list) where
-  passes : Sound d
-  passes = sound-is d (h .tests)
+    says-is : finishSays d out list ≡ saysOf (logAs d list seg) out
+    says-is = sym (checks-are d out list) ∙ admitted-then d 0 (length list) (saysOf (ended d list) out) granted ∙ rw ended-is
 
-  long : length (left d) ≡ d .pending
-  long = left-long d (passes .few) (h .three)
+    pub finish-short : length out < places seg → Finishes d out list out list (record { answer = Refused (NoRoom (places seg)); state = d })
+    finish-short h =
+        let n : places seg ≡ length (form seg []) = last-places (d .pending) in
+        finish-so (NoRoom (places seg)) (sym (says-is ∙ rw (← n, lt-ltb (length out) (places seg) h)))
 
-  ended-is : ended d list ≡ damaged d list (d .pending)
-  ended-is = pending-acts d list (left d) (passes .begins) (λ z. h .some (sym long ∙ z)) ∙ rw long
+    -- the pending bytes have acted as one segment
+    last-fits : places seg ≤ length out → Fits (d .room) seg (tallyOf d) (length (d .held)) (length out) (length list)
+    last-fits h =
+        let b = passes .numbers in
+        record {
+          inside = omega (arith, last-size (d .pending), passes .few, three);
+          enough = omega (arith, h);
+          list = granted .list;
+          sums = omega (arith, last-size (d .pending), b .sum, b .within);
+          counts = b .low;
+        }
 
-  pub ends-sums : (d .whole + d .damaged + d .pending ≤ limit) × (d .count ≤ limit)
-  ends-sums = let b = passes .numbers in omega arith
-
-  pub ends-short : length out < 3 → Finishes d out list out list (record { answer = Refused (NoRoom 3); state = d })
-  ends-short k = finish-short d out list (h .tests) (h .row) (damaged d list (d .pending)) ended-is k
-
-  pub ends-done : 3 ≤ length out → (out′ list′ : List ℕ) (q : Decoder) → out′ ≡ utf8 .write replacement ++ drop 3 out
-      → list′ ≡ stored (d .room) list (d .count) (entry (d .whole + d .damaged) (d .pending) ∷ []) → q ≡ freshOf (d .room)
-      → Finishes d out list out′ list′ (record { answer = Given 3 (d .whole) (d .damaged + d .pending) (d .count + 1); state = q })
-  ends-done k out′ list′ q o l f = rw (o, l) (finish-done d out list (h .tests) (h .row) (damaged d list (d .pending)) ended-is k q f)
+    pub finish-done : places seg ≤ length out → (w : Work) → w ≡ acted (d .room) seg (d .held) (work (tallyOf d) out list)
+        → (q : Decoder) → q ≡ freshOf (d .room)
+        → Finishes d out list (w .out) (w .list)
+        (record { answer = Given (w .tally .written) (w .tally .whole) (w .tally .damaged) (w .tally .count); state = q })
+    finish-done h w e q f =
+        let n : places seg ≡ length (form seg []) = last-places (d .pending) in
+        let k : length (form seg []) ≤ length out = omega (arith, h, n) in
+        let l : Log = logAs d list seg in
+        let says : finishSays d out list ≡ 0 ∷ length (l .out) ∷ l .whole ∷ l .damaged ∷ l .count ∷ []
+        = says-is ∙ rw (le-ltb (length out) (length (form seg [])) k) in
+        let i : w ≡ work (added seg (tallyOf d)) (form seg [] ++ drop (length (form seg [])) out) (l .list)
+        = e ∙ acted-is (d .room) seg (d .held) (tallyOf d) out list (last-fits h)
+        ∙ rw (last-form (d .pending) (d .held), zero-add, n) in
+        rw i (record {
+          answer = rw (says, last-written (d .pending) d, n);
+          state = rw says f;
+          output = rw (says, ended-is);
+          entries = rw (says, ended-is);
+        })

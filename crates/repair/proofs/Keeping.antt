@@ -6,7 +6,6 @@ use native.Mathlib.Nat.{add-zero}
 use mathlib.Core.Bool.{true}
 use mathlib.Core.List.{List, [], _∷_, _++_, append-nil}
 use lib.ListN.{length, take, drop, length-append}
-use lib.Seq.{length-take-le}
 use lib.Dec.{eqb}
 use borrow.Author.Tests.{eqb-true}
 use native.Mathlib.Omega.{arith}
@@ -23,10 +22,12 @@ use Rattle.utf8.specs.Bytes.{bytes}
 use Rattle.utf8.specs.Pending.{zeros, padded}
 use Rattle.utf8.specs.Scalar.{utf8}
 use Rattle.utf8.proofs.Rows.{bytes-division, damage-short}
+use Rattle.pending.proofs.Settling.{left-short}
+use Rattle.pending.proofs.Holding.{held-back, held-zeros}
+use Rattle.soundness.proofs.Testing.{Sound, is-sound}
+use Rattle.settling.proofs.Spanning.{parts-small}
 use Rattle.repair.specs.State.{left, sound, numbers, opened, fed, closed}
-use Rattle.repair.proofs.Passing.{parts-small, left-short}
-use Rattle.repair.proofs.Testing.{Sound, is-sound}
-use Rattle.repair.proofs.Calling.{held-back, held-zeros}
+use Rattle.repair.proofs.Joining.{left-long}
 
 -- the state that keeps what is settled and what is left of a text behind what a state counts
 abbrev pub grown : Decoder → ℕ → List ℕ → Decoder
@@ -55,9 +56,6 @@ fed-small d piece list =
 -- ---- the tests
 
 module _ (d : Decoder) (three : length (d .held) ≡ 3) (s : Sound d) where
-  pub left-long : length (left d) ≡ d .pending
-  left-long = length-take-le (d .pending) (d .held) (omega (arith, three, s .few))
-
   -- a feed within the limit hands back a state that passes them
   pub grown-sound : (piece : List ℕ) → d .taken + length piece ≤ limit → sound (grown d (d .taken + length piece) (left d ++ piece)) ≡ true
   grown-sound piece within =
@@ -69,7 +67,7 @@ module _ (d : Decoder) (three : length (d .held) ≡ 3) (s : Sound d) where
         begins = rw (held-back (parts bytes text .left) (left-short text)) (left-pending bytes text);
         unused = held-zeros (parts bytes text .left) (left-short text);
         numbers = record {
-          sum = omega (arith, n .sum, whole-damaged isDamage done, parts-size bytes text, length-append (left d) piece, left-long);
+          sum = omega (arith, n .sum, whole-damaged isDamage done, parts-size bytes text, length-append (left d) piece, left-long d three s);
           within = within;
           low = omega (arith, n .low, count-damaged isDamage done);
           high = omega (arith, n .high, damaged-count isDamage bytes-division 3 damage-short text);

@@ -1,10 +1,6 @@
-pub mod Writing
-pub mod Settling
 pub mod Acting
-pub mod Passing
-pub mod Testing
-pub mod Seaming
 pub mod Answering
+pub mod Joining
 pub mod Finishing
 pub mod Calling
 pub mod Taking

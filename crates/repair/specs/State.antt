@@ -1,42 +1,20 @@
 -- The decoder's state: its tests, and what it stands for while a text comes in pieces.
 -- Assumes nothing.
-use Prim.Native.Nat.{ℕ, _+_, _*_}
-use mathlib.Core.Bool.{Bool, _&&_}
-use mathlib.Core.List.{List, [], _∷_}
-use lib.ListN.{length, take, drop}
-use lib.Dec.{leb, eqb}
-use Rattle.division.specs.Reader.{Segment, pending}
+use Prim.Native.Nat.{ℕ}
+use mathlib.Core.List.{List, []}
+use lib.ListN.{length}
+use Rattle.division.specs.Reader.{Segment}
 use Rattle.division.specs.Stream.{State}
-use Rattle.division.specs.Tally.{Entry, Log, log}
+use Rattle.division.specs.Tally.{Log, log}
 use Rattle.division.specs.Stream as stream
 use Rattle.division.specs.Table.{Kind, isDamage}
 use Rattle.terms.specs.Form.{mend}
-use Rattle.terms.specs.Limits.{limit, mostRoom}
 use Rattle.terms.specs.declared.Decoder.{Decoder}
 use Rattle.utf8.specs.Bytes.{bytes}
-use Rattle.utf8.specs.Pending.{zeros, padded}
+use Rattle.utf8.specs.Pending.{padded}
 use Rattle.utf8.specs.Scalar.{utf8}
-
--- the pending bytes
-abbrev pub left : Decoder → List ℕ
-left d = take (d .pending) (d .held)
-
--- THE TESTS OF A STATE: at most 3 pending bytes, empty or a proper beginning of a well-formed sequence; unused ones 0; whole,
--- damaged and pending bytes are those taken; taken within the limit; count ≤ damaged ≤ 3 × count; room at most 4,096
-abbrev pub sound : Decoder → Bool
-sound d =
-    leb (d .pending) 3
-    && pending bytes (left d)
-    && zeros (drop (d .pending) (d .held))
-    && eqb (d .whole + d .damaged + d .pending) (d .taken)
-    && leb (d .taken) limit
-    && leb (d .count) (d .damaged)
-    && leb (d .damaged) (3 * d .count)
-    && leb (d .room) mostRoom
-
--- a damage entry is two numbers: start in the joined text, and length
-abbrev pub numbers : Entry Kind → List ℕ
-numbers e = e .start ∷ e .long ∷ []
+pub use Rattle.soundness.specs.Tests.{left, sound}
+pub use Rattle.tally.specs.Acting.{numbers}
 
 -- what one segment does to the totals, the output and the list
 abbrev pub act : ℕ → Log → Segment Kind → Log

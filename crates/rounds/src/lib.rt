@@ -10,7 +10,7 @@ ghost use Rattle.rounds.specs.Rounds.{Back, Round};
 fn units_as_bytes(text: &[u8], between: &[u16], back: &mut [u8]) -> bool
     ensures { λ r. ⌜ Back damaged utf16 utf8 (now (text .entry)) (now (between .entry)) (now (back .entry)) (now (back .exit)) r ⌝ }
 {
-    match convert::from_units::to_bytes(between, back) {
+    match from_units::to_bytes(between, back) {
         Written::Count(n) => comparing::same_bytes(text, &back[..n]),
         Written::Refused(_) => true,
     }
@@ -21,7 +21,7 @@ pub fn bytes_units(text: &[u8], between: &mut [u16], back: &mut [u8]) -> bool
     ensures { λ r. ⌜ Round damaged damaged utf8 utf16 (now (text .entry)) (now (between .entry)) (now (back .entry))
         (now (between .exit)) (now (back .exit)) r ⌝ }
 {
-    match convert::from_bytes::to_units(text, between) {
+    match from_bytes::to_units(text, between) {
         Written::Count(n) => units_as_bytes(text, &between[..n], back),
         Written::Refused(_) => true,
     }
@@ -31,7 +31,7 @@ pub fn bytes_units(text: &[u8], between: &mut [u16], back: &mut [u8]) -> bool
 fn codes_as_bytes(text: &[u8], between: &[u32], back: &mut [u8]) -> bool
     ensures { λ r. ⌜ Back noScalar codes utf8 (now (text .entry)) (now (between .entry)) (now (back .entry)) (now (back .exit)) r ⌝ }
 {
-    match convert::from_points::to_bytes(between, back) {
+    match from_points::to_bytes(between, back) {
         Written::Count(n) => comparing::same_bytes(text, &back[..n]),
         Written::Refused(_) => true,
     }
@@ -42,7 +42,7 @@ pub fn bytes_codes(text: &[u8], between: &mut [u32], back: &mut [u8]) -> bool
     ensures { λ r. ⌜ Round damaged noScalar utf8 codes (now (text .entry)) (now (between .entry)) (now (back .entry))
         (now (between .exit)) (now (back .exit)) r ⌝ }
 {
-    match convert::from_bytes::to_codes(text, between) {
+    match from_bytes::to_codes(text, between) {
         Written::Count(n) => codes_as_bytes(text, &between[..n], back),
         Written::Refused(_) => true,
     }
@@ -52,7 +52,7 @@ pub fn bytes_codes(text: &[u8], between: &mut [u32], back: &mut [u8]) -> bool
 fn bytes_as_units(text: &[u16], between: &[u8], back: &mut [u16]) -> bool
     ensures { λ r. ⌜ Back damaged utf8 utf16 (now (text .entry)) (now (between .entry)) (now (back .entry)) (now (back .exit)) r ⌝ }
 {
-    match convert::from_bytes::to_units(between, back) {
+    match from_bytes::to_units(between, back) {
         Written::Count(n) => comparing::same_units(text, &back[..n]),
         Written::Refused(_) => true,
     }
@@ -63,7 +63,7 @@ pub fn units_bytes(text: &[u16], between: &mut [u8], back: &mut [u16]) -> bool
     ensures { λ r. ⌜ Round damaged damaged utf16 utf8 (now (text .entry)) (now (between .entry)) (now (back .entry))
         (now (between .exit)) (now (back .exit)) r ⌝ }
 {
-    match convert::from_units::to_bytes(text, between) {
+    match from_units::to_bytes(text, between) {
         Written::Count(n) => bytes_as_units(text, &between[..n], back),
         Written::Refused(_) => true,
     }
@@ -73,7 +73,7 @@ pub fn units_bytes(text: &[u16], between: &mut [u8], back: &mut [u16]) -> bool
 fn codes_as_units(text: &[u16], between: &[u32], back: &mut [u16]) -> bool
     ensures { λ r. ⌜ Back noScalar codes utf16 (now (text .entry)) (now (between .entry)) (now (back .entry)) (now (back .exit)) r ⌝ }
 {
-    match convert::from_points::to_units(between, back) {
+    match from_points::to_units(between, back) {
         Written::Count(n) => comparing::same_units(text, &back[..n]),
         Written::Refused(_) => true,
     }
@@ -84,7 +84,7 @@ pub fn units_codes(text: &[u16], between: &mut [u32], back: &mut [u16]) -> bool
     ensures { λ r. ⌜ Round damaged noScalar utf16 codes (now (text .entry)) (now (between .entry)) (now (back .entry))
         (now (between .exit)) (now (back .exit)) r ⌝ }
 {
-    match convert::from_units::to_codes(text, between) {
+    match from_units::to_codes(text, between) {
         Written::Count(n) => codes_as_units(text, &between[..n], back),
         Written::Refused(_) => true,
     }
@@ -94,7 +94,7 @@ pub fn units_codes(text: &[u16], between: &mut [u32], back: &mut [u16]) -> bool
 fn bytes_as_codes(text: &[u32], between: &[u8], back: &mut [u32]) -> bool
     ensures { λ r. ⌜ Back damaged utf8 codes (now (text .entry)) (now (between .entry)) (now (back .entry)) (now (back .exit)) r ⌝ }
 {
-    match convert::from_bytes::to_codes(between, back) {
+    match from_bytes::to_codes(between, back) {
         Written::Count(n) => comparing::same_codes(text, &back[..n]),
         Written::Refused(_) => true,
     }
@@ -105,7 +105,7 @@ pub fn codes_bytes(text: &[u32], between: &mut [u8], back: &mut [u32]) -> bool
     ensures { λ r. ⌜ Round noScalar damaged codes utf8 (now (text .entry)) (now (between .entry)) (now (back .entry))
         (now (between .exit)) (now (back .exit)) r ⌝ }
 {
-    match convert::from_points::to_bytes(text, between) {
+    match from_points::to_bytes(text, between) {
         Written::Count(n) => bytes_as_codes(text, &between[..n], back),
         Written::Refused(_) => true,
     }
@@ -115,7 +115,7 @@ pub fn codes_bytes(text: &[u32], between: &mut [u8], back: &mut [u32]) -> bool
 fn units_as_codes(text: &[u32], between: &[u16], back: &mut [u32]) -> bool
     ensures { λ r. ⌜ Back damaged utf16 codes (now (text .entry)) (now (between .entry)) (now (back .entry)) (now (back .exit)) r ⌝ }
 {
-    match convert::from_units::to_codes(between, back) {
+    match from_units::to_codes(between, back) {
         Written::Count(n) => comparing::same_codes(text, &back[..n]),
         Written::Refused(_) => true,
     }
@@ -126,7 +126,7 @@ pub fn codes_units(text: &[u32], between: &mut [u16], back: &mut [u32]) -> bool
     ensures { λ r. ⌜ Round noScalar damaged codes utf16 (now (text .entry)) (now (between .entry)) (now (back .entry))
         (now (between .exit)) (now (back .exit)) r ⌝ }
 {
-    match convert::from_points::to_units(text, between) {
+    match from_points::to_units(text, between) {
         Written::Count(n) => units_as_codes(text, &between[..n], back),
         Written::Refused(_) => true,
     }

@@ -31,7 +31,8 @@ module _ (numbers says : List ℕ) where
   pub stored-told : (n k : ℕ) → n ≡ k → k ≤ length numbers → k ≤ length says → stored k ≡ put (take n numbers) says
   stored-told n k e h l =
       let t : length (take k numbers) ≡ k = length-take-le k numbers h in
-      stored-put k h l ∙ rw (e, t)
+      let s : stored k ≡ take k numbers ++ drop (length (take k numbers)) says = rw t (stored-put k h l) in
+      rw e s
 
 module _ (says : List ℕ) where
   pub told-short : {said : List ℕ} → length says < 8 → Tells (roomy says) said says says notCalled

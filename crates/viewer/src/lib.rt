@@ -49,7 +49,7 @@ fn unwritten(r: Refusal) -> u64
 pub extern "C" fn moxandril_repair(text: &[u8], out: &mut [u8]) -> u64
     ensures { λ r. ⌜ Repairs (now (text .entry)) (now (out .entry)) (now (out .exit)) r ⌝ }
 {
-    match convert::from_bytes::repair(text, out) {
+    match from_bytes::repair(text, out) {
         Written::Count(n) => wide(n),
         Written::Refused(r) => unwritten(r),
     }

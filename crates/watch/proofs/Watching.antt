@@ -21,10 +21,10 @@ use Rattle.terms.specs.declared.Refusal.{Refusal}
 use Rattle.terms.specs.declared.Written.the-variants.{Count, Refused}
 use Rattle.terms.proofs.Telling.{no-zero}
 use Rattle.utf8.specs.Bytes.{bytes}
+use Rattle.soundness.proofs.Testing.{Sound, sound-is}
 use Rattle.repair.specs.State.{left, sound, fed, closed}
 use Rattle.repair.specs.Feeding.{feedSays, Feeds}
 use Rattle.repair.specs.declared.Fed.{Fed}
-use Rattle.repair.proofs.Testing.{Sound, sound-is}
 use Rattle.repair.proofs.Keeping.{grown, closed-is, fed-small, grown-sound, grown-append, grown-nothing}
 use Rattle.watch.specs.Watching.{watchSays, fedByte, counting, refusing, watching, watchedAll}
 use Rattle.watch.specs.declared.Watched.{Watched}

@@ -1,61 +1,23 @@
--- `repair::finish` meets its contract: each check in its order, then what is pending.
+-- `repair::finish` meets its contract: the checks, and then the text ends.
 -- Assumes nothing.
-use mathlib.Core.Path.{_≡_, sym, _∙_}
-use mathlib.Core.Bool.{true}
-use lib.ListN.{length, length-map}
-use borrow.Author.Tests.{not-true, not-false}
-use native.Mathlib.Omega.{arith}
-use Rattle.repair.specs.State.{sound}
-use Rattle.repair.proofs.Testing.{sound-is}
-use Rattle.repair.proofs.Finishing.{finish-unsound, finish-list, finish-none}
+use mathlib.Core.Path.{sym, ap, _∙_}
+use Rattle.soundness.specs.Checks.{admission}
+use Rattle.repair.proofs.Finishing.{finish-refused}
 use borrow.Author.Needs.{needs}
 use Rattle.repair.proofs.finish.Statement.{statement}
 use Rattle.repair.proofs.finish.Tie as tie
 
-is-sound-requires : tie.Need-is-sound-requires
-is-sound-requires c κs = search needs
+admit-requires : tie.Need-admit-requires
+admit-requires c κs = search needs
 
--- an array has its length
-three : (c : tie.Start) → length (c .args .state .held) ≡ 3
-three c = sym (length-map (c .args .state .held) (λ v. v)) ∙ c .good .0 .1 .1 .0 .1 .0 .1
+enum-told : tie.Need-enum-told
+enum-told c = search needs
 
-returns : tie.Need-returns
-returns c =
-    let a = c .before .before .before .before .args in
-    finish-unsound (a .state) (a .out .now) (a .list .now) (sym (c .before .is-sound .ensures) ∙ not-true _ (c .if1 .taken))
+end-requires : tie.Need-end-requires
+end-requires c κs = let e = c .before .before in sym (e .before .before .admit .ensures) ∙ ap admission (e .enum-told .given .1)
 
--- the state has passed its tests
-passed : (c : tie.Else1) → sound (c .before .before .before .before .args .state) ≡ true
-passed c = sym (c .before .is-sound .ensures) ∙ not-false _ (c .if1 .left)
-
-mul-if2 : tie.Need-mul-if2
-mul-if2 c =
-    let e = c .before in
-    let n = sound-is (e .before .before .before .before .args .state) (passed e) .numbers in
-    omega (arith, n .roomy)
-
-returns-2 : tie.Need-returns-2
-returns-2 c =
-    let e = c .before .before in
-    let a = e .before .before .before .before .args in
-    finish-list (a .state) (a .out .now) (a .list .now) (passed e) (c .if2 .taken)
-
-fresh-requires : tie.Need-fresh-requires
-fresh-requires c κs = search needs
-
-returns-3 : tie.Need-returns-3
-returns-3 c =
-    let g = c .before .before .before in
-    let e = g .before .before in
-    let a = e .before .before .before .before .args in
-    finish-none (a .state) (a .out .now) (a .list .now) (passed e) (g .if2 .left) (c .before .if3 .taken) (c .fresh .result) (c .fresh .ensures)
-
-finish-pending-requires : tie.Need-finish-pending-requires
-finish-pending-requires c κs =
-    let h = c .before .before in
-    let g = h .before .before in
-    let e = g .before .before in
-    record { tests = passed e; three = three (e .before .before .before .before); some = h .if3 .left; row = g .if2 .left }
+enum-known-why : tie.Need-enum-known-why
+enum-known-why c = search needs
 
 same-length : tie.Need-same-length
 same-length c = search needs
@@ -63,20 +25,25 @@ same-length c = search needs
 same-length-2 : tie.Need-same-length-2
 same-length-2 c = search needs
 
-returns-4 : tie.Need-returns-4
-returns-4 c = search needs
+returns : tie.Need-returns
+returns c = search needs
+
+returns-2 : tie.Need-returns-2
+returns-2 c =
+    let w = c .before in
+    let k = w .before .before in
+    let a = k .before .before .before .args in
+    finish-refused (a .state) (a .out .now) (a .list .now) (w .why .given .0 .0) (sym (ap admission (w .why .given .1)) ∙ k .admit .ensures)
 
 pub finish-spec : {M : Type 1} → statement M
 finish-spec =
     tie.close
     (tie.spec
-    is-sound-requires
-    returns
-    mul-if2
-    returns-2
-    fresh-requires
-    returns-3
-    finish-pending-requires
+    admit-requires
+    enum-told
+    end-requires
+    enum-known-why
     same-length
     same-length-2
-    returns-4)
+    returns
+    returns-2)

@@ -4,7 +4,6 @@ use mathlib.Core.Path.{sym, ap, _∙_}
 use mathlib.Core.List.{[], _∷_}
 use Prim.Native.Nat.{ℕ, suc}
 use native.Mathlib.Omega.{arith}
-use Rattle.spelling.specs.Stride.{Short}
 use Rattle.spelling.proofs.Spelling.{one-is, two-is}
 use borrow.Author.Needs.{needs}
 use Rattle.spelling.proofs.short_sequence.Statement.{statement}

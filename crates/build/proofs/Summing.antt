@@ -1,0 +1,112 @@
+-- The place behind whole segments is that of the sums of their bytes, and the stream behind them is at their end.
+-- Assumes nothing.
+use mathlib.Core.Path.{_≡_, ap, _∙_}
+use Prim.Native.Nat.{ℕ, zero, _+_, _≤_}
+use mathlib.Core.Bool.{false}
+use mathlib.Core.List.{List, [], _∷_, _++_, foldl}
+use lib.ListN.{length, length-append}
+use lib.Dec.{eqb}
+use native.Mathlib.Omega.{arith}
+use Rattle.division.specs.Reader.{Segment, first, rest, cut, parts}
+use Rattle.division.specs.Table.{Kind, isDamage}
+use Rattle.division.specs.Tally.{total, size}
+use Rattle.division.proofs.Cases.{split}
+use Rattle.division.proofs.Dividing.{total-append, cut-nil, cut-cons, cut-size, parts-nil, parts-sure, by-segments}
+use Rattle.terms.specs.Limits.{limit}
+use Rattle.terms.proofs.Converting.{AllWhole}
+use Rattle.utf8.specs.Bytes.{bytes}
+use Rattle.utf8.proofs.Rows.{whole-sure}
+use Rattle.sums.specs.Counts.{startOf, fourOf, endOf}
+use Rattle.sums.proofs.Wholes.{fourBySize, by-wholes, ends-few}
+use Rattle.place.specs.Measures.{place, unitsOf, linesOf, ruler}
+use Rattle.place.specs.Walk.{unitsBySize}
+use Rattle.place.specs.declared.Place.{Place}
+use Rattle.place.proofs.Measuring.{units-by-size}
+use Rattle.build.specs.Steps.{Fits}
+use Rattle.build.specs.Runs.{summed}
+
+-- ---- the counts behind some bytes and then some more
+
+pub summed-none : (p : Place) → summed p [] ≡ p
+summed-none p =
+    let b : p .bytes + zero ≡ p .bytes = omega arith in
+    let u : p .units + zero + zero ≡ p .units = omega arith in
+    let c : p .points + zero ≡ p .points = omega arith in
+    let l : p .lines + zero ≡ p .lines = omega arith in
+    rw (b, u, c, l)
+
+pub summed-append : (p : Place) (xs ys : List ℕ) → summed (summed p xs) ys ≡ summed p (xs ++ ys)
+summed-append p xs ys =
+    let q : Place = summed p xs in
+    let s = total-append startOf xs ys in
+    let b : q .bytes + length ys ≡ p .bytes + length (xs ++ ys) = omega (arith, length-append xs ys) in
+    let u : q .units + total startOf ys + total fourOf ys ≡ p .units + total startOf (xs ++ ys) + total fourOf (xs ++ ys)
+    = omega (arith, total-append fourOf xs ys) in
+    let c : q .points + total startOf ys ≡ p .points + total startOf (xs ++ ys) = omega arith in
+    let l : q .lines + total endOf ys ≡ p .lines + total endOf (xs ++ ys) = omega (arith, total-append endOf xs ys) in
+    rw (b, u, c, l)
+
+-- what the same bytes lead to the same counts from, is the same
+pub summed-same : (p q : Place) (xs : List ℕ) → summed p xs ≡ summed q xs → p ≡ q
+summed-same p q xs e =
+    let b : p .bytes ≡ q .bytes = omega (arith, ap (λ (r : Place). r .bytes) e) in
+    let u : p .units ≡ q .units = omega (arith, ap (λ (r : Place). r .units) e) in
+    let c : p .points ≡ q .points = omega (arith, ap (λ (r : Place). r .points) e) in
+    let l : p .lines ≡ q .lines = omega (arith, ap (λ (r : Place). r .lines) e) in
+    λ i. place (b i) (u i) (c i) (l i)
+
+-- ---- the place behind whole segments
+
+-- any segments, measure by measure
+place-totals : (p : Place) (ss : List (Segment Kind))
+    → foldl (ruler .step) p ss ≡ place (p .bytes + total size ss) (p .units + total unitsOf ss) (p .points + total (λ s. 1) ss) (p .lines + total linesOf ss)
+place-totals p [] =
+    let b : p .bytes + zero ≡ p .bytes = omega arith in
+    let u : p .units + zero ≡ p .units = omega arith in
+    let c : p .points + zero ≡ p .points = omega arith in
+    let l : p .lines + zero ≡ p .lines = omega arith in
+    rw (b, u, c, l)
+place-totals p (s ∷ ss) =
+    let q : Place = ruler .step p s in
+    let b : q .bytes + total size ss ≡ p .bytes + total size (s ∷ ss) = omega arith in
+    let u : q .units + total unitsOf ss ≡ p .units + total unitsOf (s ∷ ss) = omega arith in
+    let c : q .points + total (λ t. 1) ss ≡ p .points + total (λ t. 1) (s ∷ ss) = omega arith in
+    let l : q .lines + total linesOf ss ≡ p .lines + total linesOf (s ∷ ss) = omega arith in
+    place-totals q ss ∙ rw (b, u, c, l)
+
+-- two units exactly if four bytes
+units-four : (n : ℕ) → unitsBySize n ≡ 1 + fourBySize n
+units-four n = split (eqb n 4) (λ e. rw e) (λ e. rw e)
+
+units-are : (text : List ℕ) → total unitsOf (cut bytes text) ≡ total (λ s. 1) (cut bytes text) + total (λ s. fourBySize (size s)) (cut bytes text)
+units-are = by-segments bytes
+    (λ (text : List ℕ). total unitsOf (cut bytes text) ≡ total (λ s. 1) (cut bytes text) + total (λ s. fourBySize (size s)) (cut bytes text))
+    (rw cut-nil)
+    (λ x xs ih. rw (cut-cons bytes x xs) (omega (arith, ih, units-by-size x xs, units-four (size (first bytes x xs)))))
+
+pub summed-is : (p : Place) (text : List ℕ) → AllWhole (cut bytes text) → foldl (ruler .step) p (cut bytes text) ≡ summed p text
+summed-is p text w =
+    let s = by-wholes text w in
+    let u : p .units + total unitsOf (cut bytes text) ≡ p .units + total startOf text + total fourOf text
+    = omega (arith, units-are text, s .starts-are, s .fours-are) in
+    place-totals p (cut bytes text) ∙ rw (u, cut-size bytes text, ← s .starts-are, ← s .ends-are)
+
+pub summed-fits : (p : Place) (text : List ℕ) → AllWhole (cut bytes text) → Fits p → p .bytes + length text ≤ limit → Fits (summed p text)
+summed-fits p text w f h =
+    let s = by-wholes text w in
+    record {
+      lines = omega (arith, f .lines, ends-few text);
+      points = omega (arith, f .points);
+      units = omega (arith, f .units, s .few);
+      within = h;
+    }
+
+-- ---- the stream behind them
+
+pub parts-whole : (text : List ℕ) → AllWhole (cut bytes text) → parts bytes text ≡ record { done = cut bytes text; left = [] }
+parts-whole = by-segments bytes (λ (text : List ℕ). AllWhole (cut bytes text) → parts bytes text ≡ record { done = cut bytes text; left = [] })
+    (λ w. parts-nil bytes ∙ rw cut-nil)
+    (λ x xs ih w.
+    let v : AllWhole (first bytes x xs ∷ cut bytes (rest bytes x xs)) = rw (cut-cons bytes x xs) at w in
+    let t : isDamage (bytes x xs .tag) ≡ false = rw (v .0) in
+    parts-sure bytes x xs (whole-sure x xs t) ∙ rw (ih (v .1), cut-cons bytes x xs))

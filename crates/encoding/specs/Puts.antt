@@ -1,0 +1,17 @@
+-- What a writer of one code point leaves: its elements at the start of the output, and their number.
+-- Assumes nothing.
+use mathlib.Core.Path.{_≡_}
+use Prim.Native.Nat.{ℕ}
+use mathlib.Core.Bool.{cond, _||_}
+use mathlib.Core.List.{List, [], _++_}
+use lib.ListN.{length, drop}
+use lib.Dec.{ltb}
+use Rattle.terms.specs.Form.{Form}
+
+-- a number's elements in a form, where an output of so many places has room for them; none for a number above 10FFFF
+abbrev pub fitting : Form → ℕ → ℕ → List ℕ
+fitting G room c = cond (ltb room (length (G .write c)) || ltb 0x10FFFF c) [] (G .write c)
+
+pub record Puts (vs out out′ : List ℕ) (n : ℕ) : Type 0 where
+  pub count : n ≡ length vs
+  pub output : out′ ≡ vs ++ drop (length vs) out

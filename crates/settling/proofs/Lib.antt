@@ -1,0 +1,3 @@
+pub mod Spanning
+pub mod Reading
+pub mod Walking

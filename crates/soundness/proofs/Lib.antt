@@ -1,0 +1,3 @@
+pub mod Testing
+pub mod Admitting
+pub mod Telling
