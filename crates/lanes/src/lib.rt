@@ -269,7 +269,33 @@ fn plain_narrow(t: &[u8]) -> bool
     all < 0x80
 }
 
-// So many bytes at the start of a text are below 0x80, by wide blocks. There may be more.
+// Are the first 256?
+fn plain_vast(t: &[u8]) -> bool
+    requires { ⌜ 256 ≤ length (now t) ⌝ }
+    ensures { λ r. ⌜ (r ≡ true → Below (now (t .entry)) 256 0x80) ⌝ }
+{
+    let mut all: u8 = 0;
+    for k in 0..256 {
+        all |= t[k];
+    }
+    all < 0x80
+}
+
+// So many bytes at the start of a text are below 0x80, by vast blocks. There may be more.
+fn plain_far(text: &[u8]) -> usize
+    ensures { λ r. ⌜ (r ≤ length (now (text .entry))) × Below (now (text .entry)) r 0x80 ⌝ }
+{
+    let mut at = 0;
+    while 256 <= text.len() - at {
+        if !plain_vast(&text[at..]) {
+            return at;
+        }
+        at += 256;
+    }
+    at
+}
+
+// The same by wide blocks, and vast ones behind each of them.
 fn plain_start(text: &[u8]) -> usize
     ensures { λ r. ⌜ (r ≤ length (now (text .entry))) × Below (now (text .entry)) r 0x80 ⌝ }
 {
@@ -279,6 +305,7 @@ fn plain_start(text: &[u8]) -> usize
             return at;
         }
         at += 64;
+        at += plain_far(&text[at..]);
     }
     at
 }

@@ -1,6 +1,6 @@
--- `lanes::plain_start` meets its contract: each block goes on where the bytes so far are below 80.
+-- `lanes::plain_start` meets its contract: each block, and those behind it, go on where the bytes so far are below 80.
 -- Assumes nothing.
-use Prim.Native.Nat.{_-_, _≤_}
+use Prim.Native.Nat.{_+_, _-_, _≤_}
 use native.Mathlib.Omega.{arith}
 use borrow.Author.Needs.{needs}
 use borrow.Author.Tests.{not-false}
@@ -40,13 +40,42 @@ returns c = c .before .before .before .before .loop .inv
 add-at : tie.Need-add-at Inv-loop μ-loop
 add-at c = search needs
 
+sub-plain-far : tie.Need-sub-plain-far Inv-loop μ-loop
+sub-plain-far c = search needs
+
+part-plain-far-start : tie.Need-part-plain-far-start Inv-loop μ-loop
+part-plain-far-start c = search needs
+
+part-plain-far-end : tie.Need-part-plain-far-end Inv-loop μ-loop
+part-plain-far-end c = search needs
+
+plain-far-requires : tie.Need-plain-far-requires Inv-loop μ-loop
+plain-far-requires c κs = search needs
+
+-- what the vast blocks passed lies in the text
+inside : (c : tie.After-plain-far Inv-loop μ-loop)
+    → let l = c .before .before .before .before .before .before in
+    l .loop .at + 64 + c .plain-far .result ≤ length (l .before .before .args .text .now)
+inside c =
+    let l = c .before .before .before .before .before .before in
+    let h = simp (length-take, length-drop) at (c .plain-far .ensures .0) in
+    omega (arith, h)
+
+add-at-2 : tie.Need-add-at-2 Inv-loop μ-loop
+add-at-2 c = let h = inside c in omega arith
+
 loop-less : tie.Need-loop-less Inv-loop μ-loop
-loop-less c = search needs
+loop-less c = let h = inside c in omega arith
 
 loop-again : tie.Need-loop-again Inv-loop μ-loop
 loop-again c =
-    let l = c .before .before .before .before in
-    (omega arith, below-part (l .before .before .args .text .now) (l .loop .at) 64 0x80 (l .loop .inv .1) (c .before .plain-wide .ensures (not-false _ (c .if1 .left))))
+    let e = c .before .before in
+    let l = e .before .before .before .before in
+    let text = l .before .before .args .text .now in (
+      inside c,
+      below-part text (l .loop .at + 64) (c .plain-far .result) 0x80
+          (below-part text (l .loop .at) 64 0x80 (l .loop .inv .1) (e .before .plain-wide .ensures (not-false _ (e .if1 .left)))) (c .plain-far .ensures .1),
+    )
 
 returns-2 : tie.Need-returns-2 Inv-loop μ-loop
 returns-2 c = c .before .loop .inv
@@ -65,6 +94,11 @@ plain-start-spec =
     plain-wide-requires
     returns
     add-at
+    sub-plain-far
+    part-plain-far-start
+    part-plain-far-end
+    plain-far-requires
+    add-at-2
     loop-less
     loop-again
     returns-2)
