@@ -1,4 +1,5 @@
-//! Texts around the edges of blocks: lengths and damage at 0 to 4 from multiples of 128.
+//! Texts around the edges of blocks: lengths and damage at 0 to 4 from multiples of 128, and damage at every place of some texts, for
+//! smaller blocks.
 use crate::common::Random;
 use crate::conversions;
 use crate::pieces::{build_course, repair_course, Course};
@@ -99,8 +100,8 @@ fn codes(run: &mut Run, length: usize, places: &[usize]) {
 
 pub fn all(run: &mut Run) {
     for _ in 0..run.rounds(1) {
-        for &length in &near_edges(3) {
-            let places = near_edges(3);
+        for &length in &near_edges(5) {
+            let places = near_edges(5);
             for alphabet in 0..6 {
                 let clean = exact(&mut run.random, alphabet, length);
                 bytes(run, &clean, length);
@@ -108,6 +109,14 @@ pub fn all(run: &mut Run) {
             }
             units(run, length, &places);
             codes(run, length, &places);
+        }
+        for length in [35, 200, 530] {
+            let places: Vec<usize> = (0..length).collect();
+            for alphabet in 0..6 {
+                let clean = exact(&mut run.random, alphabet, length);
+                damaged(run, &clean, &places);
+            }
+            units(run, length, &places);
         }
     }
 }
