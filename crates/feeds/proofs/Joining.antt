@@ -5,7 +5,7 @@ use mathlib.Core.Path.{_≡_, refl, sym, ap, ap₂, subst, _∙_}
 use Prim.Native.Nat.{ℕ, _+_, _*_, _-_, _≤_, _<_}
 use native.Mathlib.Numerals.{add-one}
 use mathlib.Core.Bool.{true, false, true≢false}
-use mathlib.Core.List.{List, [], _∷_, _++_, append-assoc, append-nil, foldl, foldl-append}
+use mathlib.Core.List.{List, [], _∷_, _++_, foldl, foldl-append}
 use lib.ListN.{length, getD, take, drop, length-append, length-drop, take-append-drop, drop-of-length-le}
 use lib.Seq.{drop-cons, take-at, take-all, take-append-add, length-take-le, length-sets}
 use lib.Dec.{ltb}
@@ -28,19 +28,15 @@ use Rattle.repair.specs.Feeding.{feedSays, finishSays, Finishes}
 use Rattle.repair.specs.Course.{Call, Course, begun, wrote, called, course, listed}
 use Rattle.repair.specs.declared.Finished.{Finished}
 use Rattle.repair.specs.declared.Total.the-variants as the-total
-use Rattle.repair.proofs.Calling.{course-holds, course-ends}
+use Rattle.repair.proofs.Calling.{join-more, isGranted, FeedGrants, feed-grants, FinishGrants, finish-grants, course-holds, course-ends}
 use Rattle.comparing.specs.Cuts.{bring}
 use Rattle.comparing.proofs.Cuts.{bring-from, bring-end}
 use Rattle.feeds.specs.Feeds.{Held, held, begin, pieceFed, cutFed, cutsFed, Given, given, finished, once}
 use Rattle.feeds.specs.Feeds as specs
 use Rattle.feeds.specs.declared.Gone.{Gone}
-use Rattle.feeds.proofs.Piecing.{isGranted, piece-stopped, Feedable, feedable, Endable, endable}
+use Rattle.feeds.proofs.Piecing.{piece-stopped}
 
 -- ---- lists
-
-join-more : (ps : List (List ℕ)) (p : List ℕ) → join (ps ++ p ∷ []) ≡ join ps ++ p
-join-more [] p = append-nil p
-join-more (q ∷ ps) p = rw (join-more ps p, append-assoc)
 
 -- the part between two places, behind what is before the first
 take-on : (l : List ℕ) (a b : ℕ) → a ≤ b → a ≤ length l → take a l ++ take (b - a) (drop a l) ≡ take b l
@@ -94,7 +90,7 @@ module _ (text : List ℕ) (h : Held) (to : ℕ) where
       (fed (g .state) piece (h .list) .kept .list)
 
   module _ (going : g .going ≡ true) where
-    fed-granted : Feedable (g .state) piece rest (h .list) → pieceFed text h to ≡ next
+    fed-granted : FeedGrants (g .state) piece rest (h .list) → pieceFed text h to ≡ next
     fed-granted k = rw (going, k .says)
 
     fed-refused : isGranted says ≡ false
@@ -111,7 +107,7 @@ bounded-next text h to k b = split (h .gone .going)
     (λ t.
     split (isGranted (says text h to))
     (λ e.
-    let f = feedable (h .gone .state) (piece text h to) (rest text h to) (h .list) e in
+    let f = feed-grants (h .gone .state) (piece text h to) (rest text h to) (h .list) e in
     let n : Held = next text h to in
     let l : length (n .out) ≡ length (h .out) = wrote-long (h .out) (form text h to) (h .gone .done) (b .done-in) (f .fits) in
     rw (fed-granted text h to t f)
@@ -152,7 +148,7 @@ record Follows (r : Course) (text : List ℕ) (h : Held) : Type 0 where
   written-is : r .written ≡ take (h .gone .done) (h .out)
   pieces-are : join (r .pieces) ≡ take (h .gone .from) text
 
-called-granted : (r : Course) (c : Call) → Feedable (r .state) (c .piece) (c .out) (r .list)
+called-granted : (r : Course) (c : Call) → FeedGrants (r .state) (c .piece) (c .out) (r .list)
     → called r c ≡ record {
       state = closed (r .state) (r .state .taken + length (c .piece)) (fed (r .state) (c .piece) (r .list));
       list = fed (r .state) (c .piece) (r .list) .kept .list;
@@ -176,8 +172,8 @@ module _ (r : Course) (text : List ℕ) (h : Held) (to : ℕ) (f : Follows r tex
 
   follows-next : h .gone .going ≡ true → isGranted (says text h to) ≡ true → Follows (called r call) text (pieceFed text h to)
   follows-next t e =
-      let k = feedable (h .gone .state) (piece text h to) (rest text h to) (h .list) e in
-      let k′ : Feedable (r .state) (piece text h to) (rest text h to) (r .list) = rw (f .state-is, f .list-is) k in
+      let k = feed-grants (h .gone .state) (piece text h to) (rest text h to) (h .list) e in
+      let k′ : FeedGrants (r .state) (piece text h to) (rest text h to) (r .list) = rw (f .state-is, f .list-is) k in
       rw (fed-granted text h to t k, called-granted r call k′) (record {
         state-is = rw (f .state-is, f .list-is);
         list-is = rw (f .state-is, f .list-is);
@@ -220,7 +216,7 @@ module _ (text : List ℕ) (h : Held) (to : ℕ) (e : pieceFed text h to .gone .
   -- as far as the cut
   went-to : pieceFed text h to .gone .from ≡ to
   went-to = ap (λ (x : Held). x .gone .from)
-      (fed-granted text h to (went-on .0) (feedable (h .gone .state) (piece text h to) (rest text h to) (h .list) (went-on .1)))
+      (fed-granted text h to (went-on .0) (feed-grants (h .gone .state) (piece text h to) (rest text h to) (h .list) (went-on .1)))
 
 module _ (room : ℕ) (row text : List ℕ) where
   pub sure-next : (h : Held) (to : ℕ) → h .gone .from ≤ to → to ≤ length text → Sure room row text h → Sure room row text (pieceFed text h to)
@@ -281,7 +277,7 @@ module _ (room : ℕ) (row text : List ℕ) where
         (take (h .gone .done) (h .out) ++ (last ++ drop (length last) left))
         (ended d (h .list) .list)
 
-    ran-all : h .gone .going ≡ true → Endable d left (h .list) → Ran ending
+    ran-all : h .gone .going ≡ true → FinishGrants d left (h .list) → Ran ending
     ran-all t k =
         let u = s .runs t in
         let f = u .follows in
@@ -328,7 +324,7 @@ module _ (room : ℕ) (row text : List ℕ) where
     ran e = split (h .gone .going)
         (λ t. split (isGranted (finishSays d left (h .list)))
         (λ g.
-        let k = endable d left (h .list) g in
+        let k = finish-grants d left (h .list) g in
         let v : finished h ≡ ending = rw (t, k .says) in
         subst Ran (sym v) (ran-all t k))
         (λ g. absurd (true≢false (sym e ∙ rw (t, g)))))

@@ -1,15 +1,14 @@
 -- The calls on the way through a text, as the definition says: start, the feed of a piece, finish; and what each has passed.
 -- Assumes nothing.
 use mathlib.Core.Path.{_≡_, sym, ap, subst, _∙_}
-use Prim.Native.Nat.{ℕ, _+_, _*_, _-_, _≤_}
+use Prim.Native.Nat.{ℕ, _+_, _-_, _≤_}
 use mathlib.Core.Bool.{Bool, true, false, cond, true≢false}
 use mathlib.Core.List.{List, [], _∷_}
 use lib.ListN.{length, getD, take, drop, length-drop}
-use lib.Dec.{ltb, eqb}
-use borrow.Author.Tests.{ltb-false}
+use lib.Dec.{ltb}
 use native.Mathlib.Omega.{arith}
 use Rattle.division.proofs.Cases.{split}
-use Rattle.terms.specs.Limits.{limit, mostRoom}
+use Rattle.terms.specs.Limits.{mostRoom}
 use Rattle.terms.specs.Told.{written, ifGranted}
 use Rattle.terms.specs.declared.Decoder.{Decoder}
 use Rattle.terms.specs.declared.Refusal.{Refusal}
@@ -17,19 +16,17 @@ use Rattle.terms.specs.declared.Written.the-variants as the-written
 use Rattle.terms.proofs.Telling.{no-zero}
 use Rattle.terms.proofs.Walking.{part-is}
 use Rattle.terms.proofs.Writing.{lent, back, back-is}
-use Rattle.repair.specs.State.{sound, fed, ended, closed}
+use Rattle.repair.specs.State.{fed, ended, closed}
 use Rattle.repair.specs.Feeding.{begun, total, Starts, feedSays, Feeds, finishSays, Finishes}
 use Rattle.repair.specs.declared.Begun.the-variants as the-begun
 use Rattle.repair.specs.declared.Total.the-variants as the-total
 use Rattle.repair.specs.declared.Started.{Started}
 use Rattle.repair.specs.declared.Fed.{Fed}
 use Rattle.repair.specs.declared.Finished.{Finished}
+use Rattle.repair.proofs.Calling.{isGranted, finish-grants}
 use Rattle.feeds.specs.Feeds.{held, begin, pieceFed, given, nothing, finished}
 use Rattle.feeds.specs.declared.Gone.{Gone}
 use Rattle.feeds.specs.declared.Found.{Found}
-
-abbrev pub isGranted : List ℕ → Bool
-isGranted says = eqb (getD says 0 0) 0
 
 -- ---- start
 
@@ -98,52 +95,6 @@ module _ (g : Gone) (text : List ℕ) (cut : ℕ) (out list : List ℕ) where
         (record { going = true; state = feedState; from = cut; done = g .done + getD feedTells 1 0 })
         (record { going = false; state = g .state; from = g .from; done = g .done })) no))
 
--- ---- what a granted call has passed
-
-module _ (d : Decoder) (piece out list : List ℕ) where
-  abbrev form : List ℕ
-  form = fed d piece list .kept .out
-
-  pub record Feedable : Type 0 where
-    pub says : feedSays d piece out list ≡ 0 ∷ length form ∷ []
-    pub fits : length form ≤ length out
-
-  pub feedable : isGranted (feedSays d piece out list) ≡ true → Feedable
-  feedable g = split (sound d)
-      (λ s.
-      split (ltb limit (d .taken + length piece))
-      (λ o. absurd (true≢false (sym (rw (s, o) at g))))
-      (λ o.
-      split (ltb (length list) (2 * d .room))
-      (λ k. absurd (true≢false (sym (rw (s, o, k) at g))))
-      (λ k.
-      split (ltb (length out) (length form))
-      (λ n. absurd (true≢false (sym (rw (s, o, k, n) at g))))
-      (λ n. record { says = rw (s, o, k, n); fits = ltb-false (length out) (length form) n }))))
-      (λ s. absurd (true≢false (sym (rw s at g))))
-
-module _ (d : Decoder) (out list : List ℕ) where
-  pub record Endable : Type 0 where
-    pub says : finishSays d out list
-        ≡ 0 ∷ length (ended d list .out) ∷ ended d list .whole ∷ ended d list .damaged ∷ ended d list .count ∷ []
-    pub fits : length (ended d list .out) ≤ length out
-    pub long : 2 * d .room ≤ length list
-
-  pub endable : isGranted (finishSays d out list) ≡ true → Endable
-  endable g = split (sound d)
-      (λ s.
-      split (ltb (length list) (2 * d .room))
-      (λ k. absurd (true≢false (sym (rw (s, k) at g))))
-      (λ k.
-      split (ltb (length out) (length (ended d list .out)))
-      (λ n. absurd (true≢false (sym (rw (s, k, n) at g))))
-      (λ n. record {
-        says = rw (s, k, n);
-        fits = ltb-false (length out) (length (ended d list .out)) n;
-        long = ltb-false (length list) (2 * d .room) k;
-      })))
-      (λ s. absurd (true≢false (sym (rw s at g))))
-
 -- ---- finish
 
 module _ (g : Gone) (out list : List ℕ) where
@@ -184,6 +135,6 @@ module _ (g : Gone) (out list : List ℕ) where
     pub end-fits : (n w d k : ℕ) → q .answer ≡ the-total.Given n w d k → g .done ≤ length out → g .done + n ≤ length out
     end-fits n w d k a h =
         let says : finishTells ≡ 0 ∷ n ∷ w ∷ d ∷ k ∷ [] = sym (ends .answer) ∙ ap total a in
-        let e = endable (g .state) (drop (g .done) out) list (ap isGranted says) in
+        let e = finish-grants (g .state) (drop (g .done) out) list (ap isGranted says) in
         let m : n ≡ length (ended (g .state) list .out) = ap (λ (l : List ℕ). getD l 1 0) (sym says ∙ e .says) in
         omega (arith, m, e .fits, length-drop (g .done) out)

@@ -15,7 +15,7 @@ use Rattle.terms.specs.declared.Written.the-variants as the-written
 use Rattle.terms.proofs.Answering.{repair-count}
 use Rattle.terms.proofs.Telling.{no-zero}
 use Rattle.utf8.specs.Scalar.{utf8}
-use Rattle.feeds.proofs.Piecing.{isGranted}
+use Rattle.repair.proofs.Calling.{isGranted}
 use Rattle.pieces.specs.Pieces.{Lent, lent, bothFed, leaves}
 
 module _ (text whole : List ℕ) {whole′ : List ℕ} {r : Written}
