@@ -1,5 +1,5 @@
 //! The jobs: ours and a peer's on the same text, first compared, then measured in turn.
-use crate::measure::{keep, pair};
+use crate::measure::{keep, pair, Pair};
 use crate::{calls, inputs, peers};
 use std::hint::black_box;
 
@@ -10,33 +10,31 @@ pub struct Job {
     pub peer: &'static str,
     /// only clean texts are compared: damage is refused, or one side would stop at it and the other read on
     pub strict: bool,
-    run: fn(&[u8]) -> (f64, f64),
+    run: fn(&[u8]) -> Pair,
 }
 
-/// What was measured: seconds of one run of each.
-#[derive(Clone, Debug)]
+/// What was measured.
 pub struct Row {
     pub job: Job,
     pub kind: &'static str,
     pub bytes: usize,
-    pub ours: f64,
-    pub peer: f64,
+    measured: Pair,
 }
 
 impl Row {
     /// Above 1 ours is faster.
     pub fn ratio(&self) -> f64 {
-        self.peer / self.ours
+        self.measured.ratio
     }
 
     /// Gigabytes of input a second.
     pub fn speeds(&self) -> (f64, f64) {
         let speed = |seconds: f64| self.bytes as f64 / seconds / 1e9;
-        (speed(self.ours), speed(self.peer))
+        (speed(self.measured.ours), speed(self.measured.peer))
     }
 }
 
-const fn job(name: &'static str, peer: &'static str, run: fn(&[u8]) -> (f64, f64)) -> Job {
+const fn job(name: &'static str, peer: &'static str, run: fn(&[u8]) -> Pair) -> Job {
     Job {
         name,
         peer,
@@ -96,25 +94,23 @@ impl Job {
         if self.name == CHECK {
             text.truncate(read_by_check(&text));
         }
-        let (ours, peer) = (self.run)(&text);
         Row {
             job: self,
             kind,
             bytes: text.len(),
-            ours,
-            peer,
+            measured: (self.run)(&text),
         }
     }
 }
 
-fn check_std(text: &[u8]) -> (f64, f64) {
+fn check_std(text: &[u8]) -> Pair {
     assert_eq!(calls::check(text) == 0, std::str::from_utf8(text).is_ok());
     pair(&mut || keep(calls::check(black_box(text))), &mut || {
         keep(std::str::from_utf8(black_box(text)))
     })
 }
 
-fn check_simdutf8(text: &[u8]) -> (f64, f64) {
+fn check_simdutf8(text: &[u8]) -> Pair {
     use simdutf8::basic::from_utf8;
     assert_eq!(calls::check(text) == 0, from_utf8(text).is_ok());
     pair(&mut || keep(calls::check(black_box(text))), &mut || {
@@ -123,7 +119,7 @@ fn check_simdutf8(text: &[u8]) -> (f64, f64) {
 }
 
 /// On clean text the peer lends its input and copies nothing; ours writes the whole form.
-fn repair_std(text: &[u8]) -> (f64, f64) {
+fn repair_std(text: &[u8]) -> Pair {
     let mut out = vec![0u8; 3 * text.len()];
     let n = calls::repair(text, &mut out);
     assert_eq!(&out[..n], String::from_utf8_lossy(text).as_bytes());
@@ -133,7 +129,7 @@ fn repair_std(text: &[u8]) -> (f64, f64) {
     )
 }
 
-fn repair_encoding(text: &[u8]) -> (f64, f64) {
+fn repair_encoding(text: &[u8]) -> Pair {
     let (mut out, mut theirs) = (vec![0u8; 3 * text.len() + 3], vec![0u8; 3 * text.len() + 3]);
     let n = calls::repair(text, &mut out);
     assert_eq!(n, peers::encoding_repair(text, &mut theirs));
@@ -144,7 +140,7 @@ fn repair_encoding(text: &[u8]) -> (f64, f64) {
     )
 }
 
-fn units_encoding(text: &[u8]) -> (f64, f64) {
+fn units_encoding(text: &[u8]) -> Pair {
     let (mut out, mut theirs) = (vec![0u16; text.len() + 1], vec![0u16; text.len() + 1]);
     let n = calls::repair_to_units(text, &mut out)[1];
     assert_eq!(n, peers::encoding_to_units(text, &mut theirs));
@@ -155,7 +151,7 @@ fn units_encoding(text: &[u8]) -> (f64, f64) {
     )
 }
 
-fn units_std(text: &[u8]) -> (f64, f64) {
+fn units_std(text: &[u8]) -> Pair {
     let (mut out, mut theirs) = (vec![0u16; text.len() + 1], vec![0u16; text.len() + 1]);
     let n = calls::to_units(text, &mut out)[1];
     assert_eq!(n, peers::std_to_units(text, &mut theirs));
@@ -170,7 +166,7 @@ fn as_units(text: &[u8]) -> Vec<u16> {
     String::from_utf8_lossy(text).encode_utf16().collect()
 }
 
-fn bytes_encoding(text: &[u8]) -> (f64, f64) {
+fn bytes_encoding(text: &[u8]) -> Pair {
     let units = as_units(text);
     let (mut out, mut theirs) = (
         vec![0u8; 3 * units.len() + 1],
@@ -185,7 +181,7 @@ fn bytes_encoding(text: &[u8]) -> (f64, f64) {
     )
 }
 
-fn bytes_std(text: &[u8]) -> (f64, f64) {
+fn bytes_std(text: &[u8]) -> Pair {
     let units = as_units(text);
     let (mut out, mut theirs) = (
         vec![0u8; 3 * units.len() + 4],
@@ -200,7 +196,7 @@ fn bytes_std(text: &[u8]) -> (f64, f64) {
     )
 }
 
-fn build_loop(text: &[u8]) -> (f64, f64) {
+fn build_loop(text: &[u8]) -> Pair {
     let mut row = vec![0u32; calls::index_size(text.len())];
     let [units, _, _] = peers::count(text);
     assert_eq!(calls::build(text, &mut row)[0], 0);
@@ -211,7 +207,7 @@ fn build_loop(text: &[u8]) -> (f64, f64) {
     )
 }
 
-fn build_bytecount(text: &[u8]) -> (f64, f64) {
+fn build_bytecount(text: &[u8]) -> Pair {
     let mut row = vec![0u32; calls::index_size(text.len())];
     assert_eq!(peers::count(text)[1], bytecount::num_chars(text));
     pair(
@@ -221,7 +217,7 @@ fn build_bytecount(text: &[u8]) -> (f64, f64) {
 }
 
 /// The unit at which the text ends, so that all of it is counted.
-fn plain_loop(text: &[u8]) -> (f64, f64) {
+fn plain_loop(text: &[u8]) -> Pair {
     let [end, _, _] = peers::count(text);
     assert_eq!(calls::plain_unit(text, end)[..2], [0, text.len()]);
     assert_eq!(peers::byte_of_unit(text, end), Some(text.len()));
@@ -231,7 +227,7 @@ fn plain_loop(text: &[u8]) -> (f64, f64) {
     )
 }
 
-fn indexed_loop(text: &[u8]) -> (f64, f64) {
+fn indexed_loop(text: &[u8]) -> Pair {
     let mut row = vec![0u32; calls::index_size(text.len())];
     calls::build(text, &mut row);
     let [end, _, _] = peers::count(text);

@@ -50,8 +50,16 @@ pub fn median(mut times: Vec<f64>) -> f64 {
     times[times.len() / 2]
 }
 
-/// The median seconds of one run of each, measured in turn; which goes first changes from sample to sample.
-pub fn pair(ours: &mut dyn FnMut(), peer: &mut dyn FnMut()) -> (f64, f64) {
+/// Two bodies measured in turn: the median seconds of one run of each, and the median of the ratios of neighbouring samples, which a
+/// processor that changes its speed disturbs least.
+pub struct Pair {
+    pub ours: f64,
+    pub peer: f64,
+    pub ratio: f64,
+}
+
+/// Which goes first changes from sample to sample.
+pub fn pair(ours: &mut dyn FnMut(), peer: &mut dyn FnMut()) -> Pair {
     let runs = (runs_for(ours), runs_for(peer));
     let (mut a, mut b) = (Vec::new(), Vec::new());
     for sample in 0..SAMPLES {
@@ -63,7 +71,12 @@ pub fn pair(ours: &mut dyn FnMut(), peer: &mut dyn FnMut()) -> (f64, f64) {
             a.push(seconds(ours, runs.0) / runs.0 as f64);
         }
     }
-    (median(a), median(b))
+    let ratios = a.iter().zip(&b).map(|(ours, peer)| peer / ours).collect();
+    Pair {
+        ours: median(a),
+        peer: median(b),
+        ratio: median(ratios),
+    }
 }
 
 /// The median seconds of one run.

@@ -14,8 +14,8 @@ pub struct Findings {
 }
 
 const METHOD: &str = "\
-Each case runs ours and the peer's in turn in one process, and the median is taken of each. A ratio is the peer's time divided \
-by ours: above 1 ours is faster. Texts are made by the program from fixed seeds. Before it is timed, each case is compared: both \
+Each case runs ours and the peer's in turn in one process. A ratio is the peer's time divided by ours, above 1 ours is faster: the \
+median of the ratios of neighbouring samples. The speeds are from the median times of each. Texts are made by the program from fixed seeds. Before it is timed, each case is compared: both \
 sides must agree.
 
 - Check and repair are the viewer's routines. The other calls go through the wrappers of the crates `outside` and `outside_places`, which \
