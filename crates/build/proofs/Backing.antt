@@ -9,7 +9,7 @@ use lib.Seq.{take-add, drop-cons, length-take-le}
 use native.Mathlib.Omega.{arith}
 use Rattle.division.specs.Tally.{total}
 use Rattle.division.proofs.Dividing.{total-append}
-use Rattle.lanes.specs.Stands.{later}
+use Rattle.stands.specs.Stands.{later}
 use Rattle.sums.specs.Counts.{startOf, fourOf, endOf}
 use Rattle.sums.proofs.Wholes.{Laters, laters-none}
 use Rattle.place.specs.Measures.{place}

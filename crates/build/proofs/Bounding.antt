@@ -14,7 +14,7 @@ use Rattle.division.proofs.Cases.{under}
 use Rattle.division.proofs.Dividing.{cut-nil, cut-cons, cut-append, first-size}
 use Rattle.division.proofs.Placing.{last-here, last-from, bytes-mono}
 use Rattle.terms.proofs.Converting.{AllWhole}
-use Rattle.lanes.specs.Stands.{later}
+use Rattle.stands.specs.Stands.{later}
 use Rattle.utf8.specs.Bytes.{bytes}
 use Rattle.utf8.proofs.Rows.{bytes-division}
 use Rattle.sums.specs.Edges.{Edge}

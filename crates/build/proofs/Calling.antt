@@ -29,7 +29,7 @@ use Rattle.place.specs.Measures.{place, ruler}
 use Rattle.place.specs.Lookup.{counts}
 use Rattle.place.specs.declared.Place.{Place}
 use Rattle.place.proofs.Measuring.{measured, Ordered, ordered}
-use Rattle.index.specs.Checkpoints.{spacing, needed, indexOf}
+use Rattle.checkpoints.specs.Checkpoints.{spacing, needed, indexOf}
 use Rattle.build.specs.Building.{freshBuilder, left, settled, sound, building, opened, fed, ended, closed, buildSays, Feeds, Finishes}
 use Rattle.build.specs.Course.{Course, started, called, course, Holds, Ends}
 use Rattle.build.specs.declared.Builder.{Builder}

@@ -12,7 +12,7 @@ use Rattle.terms.specs.Limits.{limit}
 use Rattle.terms.specs.Told.{refusal}
 use Rattle.terms.specs.declared.Refusal.{Refusal}
 use Rattle.terms.proofs.Telling.{no-zero}
-use Rattle.index.specs.Checkpoints.{needed}
+use Rattle.checkpoints.specs.Checkpoints.{needed}
 use Rattle.build.specs.Building.{freshBuilder, sound, buildSays, ended, Feeds, Finishes}
 use Rattle.build.specs.Steps.{Granted, grown}
 use Rattle.build.specs.declared.Builder.{Builder}

@@ -21,7 +21,7 @@ use Rattle.pending.proofs.Seaming.{seam-pending, seam-over, seam-inside, seam-b
 use Rattle.place.specs.Measures.{ruler}
 use Rattle.place.specs.Lookup.{counts}
 use Rattle.place.specs.declared.Place.{Place}
-use Rattle.index.specs.Checkpoints.{spacing}
+use Rattle.checkpoints.specs.Checkpoints.{spacing}
 use Rattle.build.specs.Building.{left, settled, closed, ended}
 use Rattle.build.specs.Steps.{Fits, marked, behind, Ahead, Advances, builtOf, streamOf, joined, Walks, keeping, Closes, Granted, Seams}
 use Rattle.build.specs.declared.Builder.{Builder}

@@ -25,7 +25,7 @@ use Rattle.place.specs.Measures.{ruler}
 use Rattle.place.specs.Lookup.{counts}
 use Rattle.place.specs.declared.Place.{Place}
 use Rattle.place.proofs.Measuring.{measured}
-use Rattle.index.specs.Checkpoints.{spacing}
+use Rattle.checkpoints.specs.Checkpoints.{spacing}
 use Rattle.build.specs.Steps.{Holds, builtOf, Walked}
 use Rattle.build.specs.Runs.{summed, Roomy, Covers, StepsBack, Runs}
 use Rattle.build.proofs.Summing.{summed-none, summed-append, summed-is, summed-fits, parts-whole}

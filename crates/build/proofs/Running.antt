@@ -13,14 +13,14 @@ use Rattle.division.proofs.Streaming.{feed-after, after-nil}
 use Rattle.terms.proofs.Converting.{whole-none}
 use Rattle.terms.proofs.Walking.{part-is}
 use Rattle.utf8.specs.Bytes.{bytes}
-use Rattle.utf8.specs.Run.{wholeRun}
+use Rattle.strict_utf8.specs.Run.{wholeRun}
 use Rattle.utf8.proofs.Rows.{bytes-division}
-use Rattle.utf8.proofs.Running.{Run}
-use Rattle.utf8.proofs.Fitting.{run-at}
+use Rattle.strict_utf8.proofs.Running.{Run}
+use Rattle.strict_utf8.proofs.Fitting.{run-at}
 use Rattle.place.specs.Measures.{ruler}
 use Rattle.place.specs.Lookup.{counts}
 use Rattle.place.specs.declared.Place.{Place}
-use Rattle.index.specs.Checkpoints.{spacing}
+use Rattle.checkpoints.specs.Checkpoints.{spacing}
 use Rattle.build.specs.Steps.{builtOf, streamOf, Walks, Walked}
 use Rattle.build.specs.Runs.{Runs}
 use Rattle.build.proofs.Walking.{walked-on}

@@ -18,7 +18,7 @@ use Rattle.pending.proofs.Settling.{settled-parts, settled-inside, settled-none
 use Rattle.place.specs.Measures.{ruler}
 use Rattle.place.specs.Lookup.{counts}
 use Rattle.place.specs.declared.Place.{Place}
-use Rattle.index.specs.Checkpoints.{spacing}
+use Rattle.checkpoints.specs.Checkpoints.{spacing}
 use Rattle.build.specs.Building.{closed}
 use Rattle.build.specs.Steps.{marked, behind, Ahead, Advances, builtOf, streamOf, Walks, Walked, keeping, Closes, Stretched}
 use Rattle.build.proofs.Marking.{behind-fits, add-first}

@@ -17,7 +17,7 @@ use Rattle.utf8.specs.Pending.{zeros, padded}
 use Rattle.place.specs.Measures.{place, ruler}
 use Rattle.place.specs.Lookup.{counts}
 use Rattle.place.specs.declared.Place.{Place}
-use Rattle.index.specs.Checkpoints.{spacing, needed}
+use Rattle.checkpoints.specs.Checkpoints.{spacing, needed}
 use Rattle.build.specs.declared.Builder.{Builder}
 use Rattle.build.specs.declared.Building.{Building}
 use Rattle.build.specs.declared.Building.the-variants.{Done, Refused}

@@ -14,7 +14,7 @@ use Rattle.terms.specs.Told.{ifGranted}
 use Rattle.utf8.specs.Bytes.{bytes}
 use Rattle.place.specs.Measures.{ruler}
 use Rattle.place.specs.Lookup.{counts}
-use Rattle.index.specs.Checkpoints.{spacing, needed, indexOf}
+use Rattle.checkpoints.specs.Checkpoints.{spacing, needed, indexOf}
 use Rattle.build.specs.Building.{freshBuilder, left, settled, sound, building, fed, closed, buildSays}
 use Rattle.build.specs.declared.Builder.{Builder}
 use Rattle.build.specs.declared.Built as the-built

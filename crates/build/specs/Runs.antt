@@ -6,7 +6,7 @@ use mathlib.Core.Bool.{true, false}
 use mathlib.Core.List.{List, []}
 use lib.ListN.{length, getD, take, drop}
 use Rattle.terms.specs.Strict.{damages}
-use Rattle.lanes.specs.Stands.{later}
+use Rattle.stands.specs.Stands.{later}
 use Rattle.utf8.specs.Bytes.{bytes}
 use Rattle.sums.specs.Counts.{sumsOf}
 use Rattle.sums.specs.Edges.{Edge}

@@ -18,7 +18,7 @@ use Rattle.place.specs.Measures.{place, ruler}
 use Rattle.place.specs.Walk.{unitsBySize, linesByHead}
 use Rattle.place.specs.Lookup.{counts}
 use Rattle.place.specs.declared.Place.{Place}
-use Rattle.index.specs.Checkpoints.{spacing, needed}
+use Rattle.checkpoints.specs.Checkpoints.{spacing, needed}
 use Rattle.build.specs.Building.{left, settled, sound, fed, closed}
 use Rattle.build.specs.declared.Builder.{Builder}
 

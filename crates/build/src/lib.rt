@@ -8,11 +8,11 @@ ghost use mathlib.Core.Bool.{false};
 ghost use lib.ListN.{length, getD};
 ghost use lib.Seq.{sets};
 ghost use Rattle.division.specs.Index.{begun};
-ghost use Rattle.lanes.specs.Stands.{later};
+ghost use Rattle.stands.specs.Stands.{later};
 ghost use Rattle.sums.specs.Counts.{fourOf};
 ghost use Rattle.place.specs.Measures.{ruler};
 ghost use Rattle.place.specs.Lookup.{counts};
-ghost use Rattle.index.specs.Checkpoints.{spacing};
+ghost use Rattle.checkpoints.specs.Checkpoints.{spacing};
 ghost use Rattle.build.specs.Building.{freshBuilder, settled, sound, building, buildSays, ended, Feeds, Finishes};
 ghost use Rattle.build.specs.Steps.{Holds, marked, Between, Ahead, Advances, keeping, Walks, Walked, Seams, Closes, Granted, streamOf, joined, grown};
 ghost use Rattle.build.specs.Steps.{Stretches, Stretched};
@@ -91,7 +91,7 @@ fn check(state: Builder, more: usize, room: usize) -> Building
     if Decoder::LIMIT - state.taken < more {
         return Building::Refused(Refusal::OverLimit);
     }
-    let needed = 4 * ((state.taken + more) / index::SPACING + 1);
+    let needed = 4 * ((state.taken + more) / checkpoints::SPACING + 1);
     if room < needed {
         return Building::Refused(Refusal::NoRoom { needed });
     }
@@ -132,8 +132,8 @@ fn pass(p: Place, q: Place, row: &mut [u32])
     requires { ⌜ Between p q (now row) ⌝ }
     ensures { λ r. ⌜ now (row .exit) ≡ marked (now (row .entry)) p q ⌝ }
 {
-    let k = p.bytes / index::SPACING + 1;
-    let due = index::SPACING * k;
+    let k = p.bytes / checkpoints::SPACING + 1;
+    let due = checkpoints::SPACING * k;
     if q.bytes < due {
         return;
     }
@@ -255,12 +255,12 @@ fn pass_run(text: &[u8], from: Place, row: &mut [u32]) -> Place
     let mut q = from;
     let mut at: usize = 0;
     loop {
-        let end = at + (index::SPACING - q.bytes % index::SPACING);
+        let end = at + (checkpoints::SPACING - q.bytes % checkpoints::SPACING);
         if text.len() < end {
             return add_sums(q, &text[at..]);
         }
         q = add_sums(q, &text[at..end]);
-        mark(row, q.bytes / index::SPACING, step_back(text, end, q));
+        mark(row, q.bytes / checkpoints::SPACING, step_back(text, end, q));
         at = end;
     }
 }
@@ -311,7 +311,7 @@ fn walk(text: &[u8], from: Place, taken: usize, row: &mut [u32]) -> Builder
     let mut at: usize = 0;
     let mut wait = WAIT;
     loop {
-        let run = utf8::whole_run(&text[at..]);
+        let run = strict_utf8::whole_run(&text[at..]);
         let end = at + run;
         p = pass_run(&text[at..end], p, row);
         let q = stretch(&text[end..], p, wait, row);

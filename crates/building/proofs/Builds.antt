@@ -13,9 +13,10 @@ use native.Mathlib.Omega.{arith}
 use Rattle.division.specs.Stream.{join}
 use Rattle.division.proofs.Cases.{split, under}
 use Rattle.terms.specs.Limits.{limit}
-use Rattle.index.specs.Checkpoints.{needed, indexOf}
-use Rattle.index.specs.Looking.{auditSays}
-use Rattle.index.proofs.Truth.{Indexes, audit-exactly}
+use Rattle.checkpoints.specs.Checkpoints.{needed, indexOf}
+use Rattle.index.proofs.Truth.{Indexes}
+use Rattle.audit.specs.Audits.{auditSays}
+use Rattle.audit.proofs.Exactness.{audit-exactly}
 use Rattle.build.specs.Building.{freshBuilder, buildSays, fed, closed, ended}
 use Rattle.build.specs.Course.{Course, started, called, course, Ends}
 use Rattle.build.specs.declared.Building.the-variants.{Done}

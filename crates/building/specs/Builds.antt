@@ -8,7 +8,7 @@ use lib.ListN.{length, getD, take, drop}
 use lib.Dec.{ltb, eqb}
 use Rattle.terms.specs.Limits.{limit}
 use Rattle.terms.specs.Told.{ifGranted}
-use Rattle.index.specs.Checkpoints.{needed}
+use Rattle.checkpoints.specs.Checkpoints.{needed}
 use Rattle.build.specs.Building.{freshBuilder, building, buildSays, fed, closed, ended}
 use Rattle.build.specs.declared.Builder.{Builder}
 use Rattle.build.specs.declared.Building.{Building}

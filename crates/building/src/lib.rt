@@ -22,7 +22,7 @@ pub fn may_refuse(long: usize, room: usize) -> bool
     if Decoder::LIMIT < long {
         return true;
     }
-    room < 4 * (long / index::SPACING + 1)
+    room < 4 * (long / checkpoints::SPACING + 1)
 }
 
 // The last piece and the end, up to the first refusal.

@@ -17,32 +17,32 @@ fn cuts_at(text: &[u8], found: Placed) -> bool
         return true;
     };
     let n = p.bytes;
-    comparing::same_bytes(place::cut_bytes(text, Bytes(n)), &text[..n])
-        & comparing::same_bytes(place::cut_units(text, Units(p.units)), &text[..n])
-        & comparing::same_bytes(place::cut_points(text, Points(p.points)), &text[..n])
+    comparing::same_bytes(cutting::cut_bytes(text, Bytes(n)), &text[..n])
+        & comparing::same_bytes(cutting::cut_units(text, Units(p.units)), &text[..n])
+        & comparing::same_bytes(cutting::cut_points(text, Points(p.points)), &text[..n])
 }
 
 // A text and an offset: the text is cut at the place that counts so many bytes, units, code points or lines.
 pub fn cut_at_byte(text: &[u8], offset: Bytes) -> bool
     ensures { λ r. ⌜ r ≡ true ⌝ }
 {
-    cuts_at(text, place::at_byte(text, offset))
+    cuts_at(text, lookup::at_byte(text, offset))
 }
 
 pub fn cut_at_unit(text: &[u8], offset: Units) -> bool
     ensures { λ r. ⌜ r ≡ true ⌝ }
 {
-    cuts_at(text, place::at_unit(text, offset))
+    cuts_at(text, lookup::at_unit(text, offset))
 }
 
 pub fn cut_at_point(text: &[u8], offset: Points) -> bool
     ensures { λ r. ⌜ r ≡ true ⌝ }
 {
-    cuts_at(text, place::at_point(text, offset))
+    cuts_at(text, lookup::at_point(text, offset))
 }
 
 pub fn cut_at_line(text: &[u8], offset: Lines) -> bool
     ensures { λ r. ⌜ r ≡ true ⌝ }
 {
-    cuts_at(text, place::at_line(text, offset))
+    cuts_at(text, lookup::at_line(text, offset))
 }

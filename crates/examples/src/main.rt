@@ -108,7 +108,7 @@ fn check(c: Checked) {
 
 fn bytes_repaired(text: &[u8]) {
     let mut out = [0u8; 64];
-    match from_bytes::repair(text, &mut out) {
+    match mending::repair(text, &mut out) {
         Written::Count(n) => spell_bytes(&out[..n]),
         Written::Refused(r) => refused(r),
     }
@@ -143,7 +143,7 @@ fn show_bytes(text: &[u8]) {
     spell_bytes(text);
     put(b":");
     byte_segments(text);
-    check(utf8::check(text));
+    check(strict_utf8::check(text));
     put(b"; repaired");
     bytes_repaired(text);
     put(b"; units");
@@ -156,7 +156,7 @@ fn show_units(text: &[u16]) {
     spell_units(text);
     put(b":");
     unit_segments(text);
-    check(utf16::check(text));
+    check(strict_utf16::check(text));
     put(b"; repaired");
     units_repaired(text);
     put(b"; bytes");
@@ -182,17 +182,17 @@ fn found(p: Placed) {
 
 fn show_places(text: &[u8]) {
     put(b"unit 2:");
-    found(place::at_unit(text, Units(2)));
+    found(lookup::at_unit(text, Units(2)));
     put(b"unit 3:");
-    found(place::at_unit(text, Units(3)));
+    found(lookup::at_unit(text, Units(3)));
     put(b"byte 2:");
-    found(place::at_byte(text, Bytes(2)));
+    found(lookup::at_byte(text, Bytes(2)));
     put(b"byte 12:");
-    found(place::at_byte(text, Bytes(12)));
+    found(lookup::at_byte(text, Bytes(12)));
     put(b"line 1:");
-    found(place::at_line(text, Lines(1)));
+    found(lookup::at_line(text, Lines(1)));
     put(b"line 2:");
-    found(place::at_line(text, Lines(2)));
+    found(lookup::at_line(text, Lines(2)));
 }
 
 // Feeds a piece, prints what was written, and hands the state on.

@@ -12,7 +12,7 @@ use Rattle.terms.specs.Form.{converted}
 use Rattle.terms.specs.Limits.{limit}
 use Rattle.terms.specs.Strict.{damages, strictly, damaged, checkSays}
 use Rattle.terms.specs.Told.{checked, written}
-use Rattle.terms.specs.Writing.{roomed, Writes, repairSays, convertSays}
+use Rattle.terms.specs.Writing.{roomed, Writes, convertSays}
 use Rattle.terms.specs.declared.Checked.the-variants.{WellFormed}
 use Rattle.terms.specs.declared.Refusal.{Refusal}
 use Rattle.terms.specs.declared.Written.{Written}
@@ -50,10 +50,3 @@ strict-spelled text out out′ r e w =
     let s : spelled text ≡ converted utf8 utf16 text = spelled-whole text (none-whole 0 (cut bytes text) (d .0)) in
     let same : roomed (length out) (converted utf8 utf16 text) ≡ convertSays damaged utf8 utf16 (length out) text = rw (le-ltb limit (length text) (l .0), d .0) in
     subst (λ (q : List ℕ). Writes q (converted utf8 utf16 text) out out′ r) same (rw s at w)
-
--- repair of a text within the limit answers as the writer does
-pub repair-roomed : (text form out out′ : List ℕ) (r : Written) → length text ≤ limit → Writes (roomed (length out) form) form out out′ r
-    → Writes (repairSays (length out) text form) form out out′ r
-repair-roomed text form out out′ r h w =
-    let same : roomed (length out) form ≡ repairSays (length out) text form = rw (le-ltb limit (length text) h) in
-    subst (λ (q : List ℕ). Writes q form out out′ r) same w

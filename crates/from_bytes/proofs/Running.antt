@@ -1,75 +1,38 @@
--- Runs of whole segments in the walks over a byte text: what is passed over at once, and what it writes.
+-- Runs of whole segments in the walk that writes units: what is spelled at once, and that it is no more than there are bytes.
 -- Assumes nothing.
-use mathlib.Core.Path.{_≡_, sym, ap, _∙_}
-use Prim.Native.Nat.{ℕ, _+_, _-_, _*_, _≤_}
+use mathlib.Core.Path.{_≡_, sym, ap}
+use Prim.Native.Nat.{ℕ, _+_, _-_, _≤_}
 use mathlib.Core.Bool.{cond}
 use mathlib.Core.List.{List, [], _∷_, _++_}
-use lib.ListN.{length, take, drop, length-append, length-drop}
-use lib.Seq.{drop-drop, take-length, length-take-le}
+use lib.ListN.{length, take, drop, length-append}
 use lib.Dec.{ltb}
 use native.Mathlib.Omega.{arith}
 use Rattle.division.specs.Reader.{Segment, cut}
 use Rattle.division.specs.Table.{Kind, isDamage}
 use Rattle.division.specs.Tally.{written, total, size}
 use Rattle.division.proofs.Cases.{split}
-use Rattle.division.proofs.Dividing.{written-append, cut-size}
-use Rattle.terms.specs.Form.{Form, mend, repaired, pointOf, converted}
-use Rattle.terms.proofs.Converting.{whole-none, repaired-same, repaired-converted}
+use Rattle.division.proofs.Dividing.{cut-size}
+use Rattle.terms.specs.Form.{pointOf, converted}
 use Rattle.terms.proofs.Walking.{part-is}
-use Rattle.terms.proofs.Writing.{Passed, left, Counted, summed-on, Wrote, lent, back, filled-room, filled-on}
-use Rattle.copying.proofs.Copied.{copied-whole}
+use Rattle.terms.proofs.Writing.{Passed, left, Wrote, lent, back, filled-room, filled-on}
 use Rattle.utf8.specs.Bytes.{bytes}
-use Rattle.utf8.specs.Run.{wholeRun}
+use Rattle.strict_utf8.specs.Run.{wholeRun}
 use Rattle.utf8.specs.Scalar.{number, utf8}
-use Rattle.utf8.proofs.Running.{Run, run-none}
-use Rattle.utf8.proofs.Fitting.{run-at}
-use Rattle.utf8.proofs.Scalars.{utf8-faithful}
 use Rattle.utf16.specs.Scalar.{pair, utf16}
 use Rattle.utf16.proofs.Scalars.{is-one}
 use Rattle.spelling.specs.Spell.{spelled}
 use Rattle.spelling.proofs.Wholes.{spelled-whole}
 use Rattle.encoding.specs.Puts.{Puts}
-
--- what the first n bytes of a text write, where they are whole segments
-module _ (text : List ℕ) (n : ℕ) (r : Run text n) where
-  run-same : converted utf8 utf8 (take n text) ≡ take n text
-  run-same =
-      sym (repaired-converted utf8-faithful (take n text))
-      ∙ repaired-same utf8 (take n text) (whole-none 0 (cut bytes (take n text)) (r .all))
-
-  run-spelled : converted utf8 utf16 (take n text) ≡ spelled (take n text)
-  run-spelled = sym (spelled-whole (take n text) (r .all))
-
-  run-written : (G : Form) → converted utf8 G text ≡ converted utf8 G (take n text) ++ converted utf8 G (drop n text)
-  run-written G = rw (r .cuts) (written-append (λ s. G .write (pointOf utf8 s)) (cut bytes (take n text)) (cut bytes (drop n text)))
-
--- a text with no damage
-module _ (text : List ℕ) (n : ℕ) (e : n ≡ wholeRun text) (h : n ≡ length text) where
-  pub whole-same : repaired utf8 text ≡ text
-  whole-same =
-      let r : Run text n = run-at text n e in
-      let t : take n text ≡ text = rw h (take-length text) in
-      repaired-converted utf8-faithful text ∙ (rw t at (run-same text n r))
+use Rattle.mending.proofs.Running as run
 
 -- what was told of `&text[at..]`, in the walk
 module _ (text : List ℕ) (at calm n : ℕ) (h : at ≤ length text)
     (e : n ≡ cond (ltb calm 8) 0 (wholeRun (take (length text - at) (drop at text)))) where
-  run-there : Run (drop at text) n
-  run-there = split (ltb calm 8)
-      (λ t. let z : n ≡ 0 = rw t at e in rw z (run-none (drop at text)))
-      (λ t. run-at (drop at text) n (rw (t, part-is text at) at e))
-
-  pub run-inside : at + n ≤ length text
-  run-inside = omega (arith, run-there .inside, length-drop at text)
-
-  passed-run : (G : Form) → Passed (left utf8 G text) (length text) at n (converted utf8 G (take n (drop at text)))
-  passed-run G = record { inside = run-inside; same = run-written (drop at text) n run-there G ∙ rw (drop-drop n at text) }
-
-  pub passed-bytes : Passed (left utf8 utf8 text) (length text) at n (take n (drop at text))
-  passed-bytes = rw (run-same (drop at text) n run-there) at (passed-run utf8)
+  run-spelled : converted utf8 utf16 (take n (drop at text)) ≡ spelled (take n (drop at text))
+  run-spelled = sym (spelled-whole (take n (drop at text)) (run.run-there text at calm n h e .all))
 
   pub passed-units : Passed (left utf8 utf16 text) (length text) at n (spelled (take n (drop at text)))
-  passed-units = rw (run-spelled (drop at text) n run-there) at (passed-run utf16)
+  passed-units = rw run-spelled at (run.passed-run text at calm n h e utf16)
 
   -- the part of the text that was looked at
   part : List ℕ
@@ -80,29 +43,9 @@ module _ (text : List ℕ) (at calm n : ℕ) (h : at ≤ length text)
   taken = ap (take n) (part-is text at)
 
   pub run-in-part : n ≤ length (take (length text - at) (drop at text))
-  run-in-part = rw (part-is text at) (run-there .inside)
-
-  long : length (take n (drop at text)) ≡ n
-  long = length-take-le n (drop at text) (run-there .inside)
-
-  pub counted-run : (total : ℕ) → Counted utf8 utf8 text at total → Counted utf8 utf8 text (at + n) (total + n)
-  counted-run total c = rw long at (summed-on (left utf8 utf8 text) (length text) at total n (take n (drop at text)) c passed-bytes)
+  run-in-part = rw (part-is text at) (run.run-there text at calm n h e .inside)
 
   module _ (out₀ out : List ℕ) (done : ℕ) where
-    module _ (w : Wrote utf8 utf8 text out₀ out at done) (room : length (converted utf8 utf8 text) ≤ length out₀) where
-      bytes-room : n ≤ length (lent out done)
-      bytes-room = rw long at (filled-room (left utf8 utf8 text) (length text) out₀ out at done w room n (take n (drop at text)) passed-bytes)
-
-      -- `&text[at..at + n]` is copied
-      pub wrote-bytes : (ys : List ℕ)
-          → ys ≡ take (length (lent out done)) (take (at + n - at) (drop at text)) ++ drop (length (take (at + n - at) (drop at text))) (lent out done)
-          → Wrote utf8 utf8 text out₀ (back out done ys) (at + n) (done + n)
-      wrote-bytes ys e =
-          let k : at + n - at ≡ n = omega arith in
-          let p : ys ≡ take n (drop at text) ++ drop (length (take n (drop at text))) (lent out done) =
-          copied-whole (take n (drop at text)) (lent out done) ys (rw long bytes-room) (rw k at e) in
-          rw long at (filled-on (left utf8 utf8 text) (length text) out₀ out at done w room n (take n (drop at text)) passed-bytes ys p)
-
     module _ (w : Wrote utf8 utf16 text out₀ out at done) (room : length (converted utf8 utf16 text) ≤ length out₀) where
       pub units-room : length (spelled (take n (take (length text - at) (drop at text)))) ≤ length (lent out done)
       unfolding part
@@ -116,7 +59,7 @@ module _ (text : List ℕ) (at calm n : ℕ) (h : at ≤ length text)
           let o : ys ≡ spelled (take n (drop at text)) ++ drop (length (spelled (take n (drop at text)))) (lent out done) = rw taken at (q .output) in
           rw k (filled-on (left utf8 utf16 text) (length text) out₀ out at done w room n (spelled (take n (drop at text))) passed-units ys o)
 
--- ---- how much it is at most: no more units than bytes, and no more than three bytes for one
+-- ---- how much it is at most: no more units than bytes
 
 at-most-two : (c : ℕ) → length (pair c) ≤ 2
 at-most-two c = split (ltb c 0x10000) (λ e. rw e (omega arith)) (λ e. rw e (omega arith))
@@ -135,12 +78,3 @@ units-few text = omega (arith, go (cut bytes text), cut-size bytes text)
     go (s ∷ ss) = rw length-append (split (isDamage (s .tag))
         (λ d. rw d (omega (arith, go ss)))
         (λ d. rw d (omega (arith, go ss, units-of (s .head) (s .tail)))))
-
-pub bytes-few : (text : List ℕ) → length (converted utf8 utf8 text) ≤ 3 * length text
-bytes-few text = rw (← repaired-converted utf8-faithful text) (omega (arith, go (cut bytes text), cut-size bytes text))
-  where
-    go : (ss : List (Segment Kind)) → length (written (mend utf8) ss) ≤ 3 * total size ss
-    go [] = omega arith
-    go (s ∷ ss) = rw length-append (split (isDamage (s .tag))
-        (λ d. rw d (omega (arith, go ss)))
-        (λ d. rw d (omega (arith, go ss))))

@@ -134,7 +134,7 @@ fn write_few(text: &[u16], out: &mut [u8]) -> Part
     requires { ⌜ (0 < length (now text)) × (length (converted utf16 utf8 (now text)) ≤ length (now out)) ⌝ }
     ensures { λ r. ⌜ PassesTo utf16 utf8 (now (text .entry)) (now (out .entry)) (now (out .exit)) (r .read) (r .places) ⌝ }
 {
-    let p = plain::put_few(text, out);
+    let p = few::put_few(text, out);
     if 0 < p.read {
         return p;
     }
@@ -269,7 +269,7 @@ pub fn to_bytes(text: &[u16], out: &mut [u8]) -> Written
         (now (out .exit))
         r ⌝ }
 {
-    match utf16::check(text) {
+    match strict_utf16::check(text) {
         Checked::WellFormed => repair_to_bytes(text, out),
         Checked::Refused(r) => Written::Refused(r),
     }
@@ -284,7 +284,7 @@ pub fn to_codes(text: &[u16], out: &mut [u32]) -> Written
         (now (out .exit))
         r ⌝ }
 {
-    match utf16::check(text) {
+    match strict_utf16::check(text) {
         Checked::WellFormed => repair_to_codes(text, out),
         Checked::Refused(r) => Written::Refused(r),
     }

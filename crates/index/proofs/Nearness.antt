@@ -19,9 +19,8 @@ use Rattle.place.specs.declared.Place.{Place}
 use Rattle.place.specs.declared.Offset.{Offset}
 use Rattle.place.specs.declared.Offset.the-variants.{Byte, Unit, Point, Line}
 use Rattle.place.proofs.Measuring.{measured}
-use Rattle.index.specs.Checkpoints.{spacing}
-use Rattle.index.specs.Looking.{checkpoint}
-use Rattle.index.specs.Choosing.{less, halved}
+use Rattle.checkpoints.specs.Checkpoints.{spacing, checkpoint}
+use Rattle.checkpoints.specs.Choosing.{less, halved}
 use Rattle.index.proofs.Truth.{Indexes, good}
 
 -- fewer than 256 + 4 bytes from checkpoint j

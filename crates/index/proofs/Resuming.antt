@@ -1,13 +1,13 @@
--- Lookup from a checkpoint on: whether it is usable, what the walk from it tells, and the refusals before.
+-- Lookup from a checkpoint on: what the walk from it tells, and the refusals before.
 -- Assumes nothing.
 use mathlib.Core.Path.{_≡_, refl, sym, ap, _∙_}
 use Prim.Native.Nat.{ℕ, _+_, _-_, _*_, _/_, _≤_, _<_}
 use mathlib.Core.Logic.{inl}
-use mathlib.Core.Bool.{Bool, true, false, _&&_, and-false}
+use mathlib.Core.Bool.{Bool, true, false, _&&_}
 use mathlib.Core.List.{List, [], _∷_}
 use lib.ListN.{length, take, drop, length-drop}
 use lib.Dec.{leb}
-use borrow.Author.Tests.{leb-true, lt-ltb, le-ltb, le-leb, lt-leb}
+use borrow.Author.Tests.{leb-true, lt-ltb, le-ltb}
 use native.Mathlib.Omega.{arith}
 use Rattle.division.specs.Index.{marks, usable, from, byBytes}
 use Rattle.division.proofs.Cases.{both}
@@ -21,25 +21,14 @@ use Rattle.place.specs.Lookup.{foundSays}
 use Rattle.place.specs.Walk.{number, measure, fair, walkSays, resumeSays}
 use Rattle.place.specs.declared.Place.{Place}
 use Rattle.place.specs.declared.Offset.{Offset}
-use Rattle.index.specs.Checkpoints.{spacing, needed}
-use Rattle.index.specs.Looking.{checkpoint, indexed, byteSays, halvingSays}
-use Rattle.index.specs.Choosing.{less, passes, halved, Among, fromSays}
+use Rattle.checkpoints.specs.Checkpoints.{spacing, needed, checkpoint}
+use Rattle.checkpoints.specs.Choosing.{less, passes, halved}
+use Rattle.index.specs.Looking.{indexed, byteSays, halvingSays}
+use Rattle.index.specs.Resuming.{Among, fromSays}
+
+-- ---- the walk from a usable checkpoint, which is handed `&text[at..]`
 
 module _ (m : Place → ℕ) (o j : ℕ) (q : Place) where
-  -- ---- the tests of a checkpoint
-
-  pub usable-above : spacing * j < q .bytes → false ≡ usable bytes ruler 4 spacing fair m o j q
-  usable-above h = rw (lt-leb (q .bytes) (spacing * j) h, and-false (leb (spacing * j) (q .bytes + 3)))
-
-  pub usable-far : q .bytes ≤ spacing * j → 3 < spacing * j - q .bytes → false ≡ usable bytes ruler 4 spacing fair m o j q
-  usable-far h k = rw (lt-leb (spacing * j) (q .bytes + 3) (omega arith))
-
-  pub usable-near : q .bytes ≤ spacing * j → spacing * j - q .bytes ≤ 3
-      → fair q && leb (m q) o ≡ usable bytes ruler 4 spacing fair m o j q
-  usable-near h k = rw (le-leb (spacing * j) (q .bytes + 3) (omega arith), le-leb (q .bytes) (spacing * j) h)
-
-  -- ---- the walk from it, which is handed `&text[at..]`
-
   pub from-unusable : (text : List ℕ) → usable bytes ruler 4 spacing fair m o j q ≡ false
       → 6 ∷ j ∷ [] ≡ foundSays (from bytes ruler 4 spacing fair m o j q text)
   from-unusable text e = rw e
@@ -91,8 +80,8 @@ module _ (text row : List ℕ) (h : length text ≤ limit) (room : needed (lengt
       let says : 4 ∷ [] ≡ foundSays (byBytes bytes ruler 4 spacing fair o (checkpoint row) text) = rw (lt-ltb (length text) o k) in
       says ∙ sym (indexed-on text row _ h room)
 
-  pub byte-among : (o : ℕ) → o ≤ length text → Among (o / spacing) text row
-  byte-among o k = record { within = h; reached = omega arith; room = omega arith }
+  pub byte-among : (o : ℕ) → o ≤ length text → Among (o / spacing) text
+  byte-among o k = record { within = h; reached = omega arith }
 
   pub byte-from : (o : ℕ) → o ≤ length text
       → foundSays (from bytes ruler 4 spacing fair (λ p. p .bytes) o (o / spacing) (checkpoint row (o / spacing)) text) ≡ byteSays o text row
@@ -104,12 +93,12 @@ module _ (text row : List ℕ) (h : length text ≤ limit) (room : needed (lengt
 
   -- by halving
   module _ (to : Offset) (n : ℕ) (count : n ≡ marks spacing (length text)) (j : ℕ) (choice : j ≡ halved to row n) where
-    pub halving-among : Among j text row
+    pub halving-among : Among j text
     halving-among =
         let t : ℕ → Bool = λ k. passes to (checkpoint row k) in
         let c : Chosen t n (halved to row n) = halve-chosen t n 0 n (record { below = omega arith; passes = inl refl }) in
         let b : j < marks spacing (length text) = rw (choice, ← count) (c .below) in
-        record { within = h; reached = div-in spacing (length text) j b; room = omega arith }
+        record { within = h; reached = div-in spacing (length text) j b }
 
     pub halving-from : fromSays to j text row ≡ halvingSays (measure to) (less to) (number to) text row
     halving-from = ap (λ (k : ℕ). fromSays to k text row) (choice ∙ ap (halved to row) count) ∙ sym (indexed-on text row _ h room)

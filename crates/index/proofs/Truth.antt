@@ -1,18 +1,17 @@
--- A row that begins with a text's index: lookup in it answers as plain lookup, and it is what the audit says yes to.
+-- A row that begins with a text's index: lookup in it answers as plain lookup.
 -- Assumes nothing.
 use mathlib.Core.Path.{_≡_, refl, ap, _∙_}
-use mathlib.Core.Logic.{_↔_}
 use Prim.Native.Nat.{ℕ, _≤_, _<_}
-use mathlib.Core.Bool.{true, _&&_}
+use mathlib.Core.Bool.{true}
 use mathlib.Core.List.{List}
 use lib.ListN.{length, take, length-take}
 use lib.Dec.{leb, ltb}
-use borrow.Author.Tests.{ltb-false, leb-true, le-leb}
+use borrow.Author.Tests.{ltb-false, le-leb}
 use native.Mathlib.Omega.{arith}
 use Rattle.division.specs.Place.{Found, plain, mark}
-use Rattle.division.proofs.Cases.{split, both}
+use Rattle.division.proofs.Cases.{split}
 use Rattle.division.proofs.Rows.{tab-length, written-fixed}
-use Rattle.division.proofs.Placing.{mark-place}
+use Rattle.division.proofs.Placing.{PlaceOf, place-in, mark-place}
 use Rattle.division.proofs.Indexing.{True, bytes-true, rising-true, lines-true}
 use Rattle.division.proofs.Building.{row-true}
 use Rattle.terms.specs.Limits.{limit}
@@ -22,12 +21,17 @@ use Rattle.place.specs.Measures.{ruler}
 use Rattle.place.specs.Lookup.{counts, foundSays, lookupSays}
 use Rattle.place.specs.Walk.{fair}
 use Rattle.place.specs.declared.Place.{Place}
-use Rattle.place.proofs.Measuring.{measured, Rising, units-rise, points-rise, lines-never-fall}
-use Rattle.index.specs.Checkpoints.{spacing, needed, placeOf, indexOf}
-use Rattle.index.specs.Looking.{checkpoint, indexed, byteSays, halvingSays, same, auditSays}
-use Rattle.index.proofs.Entries.{same-sound, same-refl}
+use Rattle.place.proofs.Measuring.{measured, ordered, Rising, units-rise, points-rise, lines-never-fall}
+use Rattle.checkpoints.specs.Checkpoints.{spacing, needed, placeOf, indexOf, checkpoint}
+use Rattle.index.specs.Looking.{indexed, byteSays, halvingSays}
 use Rattle.index.proofs.Resuming.{indexed-on}
-use Rattle.index.proofs.Auditing.{fair-place}
+
+-- the counts of a place of a text within the limit are fair
+pub fair-place : (text : List ℕ) → length text ≤ limit → {q : Place} → PlaceOf bytes ruler text q → fair q ≡ true
+fair-place text h {q} b =
+    let o = ordered text b in
+    let i : q .bytes ≤ length text = place-in bytes measured text b in
+    rw (le-leb (q .units) limit (omega arith), le-leb (q .points) limit (omega arith), le-leb (q .lines) limit (omega arith))
 
 -- the row's first numbers are the text's index
 abbrev pub Indexes : List ℕ → List ℕ → Type 0
@@ -78,24 +82,3 @@ module _ (row text : List ℕ) (e : Indexes row text) where
       risen : (m : Place → ℕ) → Rising m → (o : ℕ) → halvingSays m leb o text row ≡ lookupSays m o text
       risen m r o =
           says _ m o (λ h. rising-true bytes-division measured 4 spacing fair tops text (fine h) (checkpoint row) good m (r .rises) (r .none) o)
-
--- THE AUDIT SAYS YES EXACTLY THEN, where the text is within the limit and the row is long enough
-pub audit-exactly : (text row : List ℕ)
-    → (auditSays text row ≡ true) ↔ ((length text ≤ limit) × (needed (length text) ≤ length row) × Indexes row text)
-audit-exactly text row = (yes, no)
-  where
-    n : ℕ
-    n = needed (length text)
-
-    yes : auditSays text row ≡ true → (length text ≤ limit) × (n ≤ length row) × Indexes row text
-    yes a =
-        let b = both (leb (length text) limit && leb n (length row)) (same (take n row) (indexOf text)) a in
-        let c = both (leb (length text) limit) (leb n (length row)) (b .0) in
-        (leb-true (length text) limit (c .0), leb-true n (length row) (c .1), same-sound (take n row) (indexOf text) (b .1))
-
-    no : (length text ≤ limit) × (n ≤ length row) × Indexes row text → auditSays text row ≡ true
-    no h = rw (le-leb (length text) limit (h .0), le-leb n (length row) (h .1), h .2) (same-refl (indexOf text))
-
--- so that lookup in a row that was audited answers as plain lookup
-pub audit-plain : (text row : List ℕ) → auditSays text row ≡ true → AsPlain row text
-audit-plain text row a = as-plain row text (audit-exactly text row .0 a .2)

@@ -1,3 +1,2 @@
-pub mod Checkpoints
 pub mod Looking
-pub mod Choosing
+pub mod Resuming

@@ -3,14 +3,14 @@
 use Prim.Native.Nat.{ℕ, zero, suc, _+_, _-_, _<_, _≤_}
 use native.Mathlib.Numerals.{add-one}
 use mathlib.Core.Path.{_≡_, refl, sym, ap, _∙_}
-use mathlib.Core.Bool.{true, false, not}
+use mathlib.Core.Bool.{true, false}
 use mathlib.Core.List.{List, [], _∷_}
 use native.Mathlib.Omega.{arith}
-use borrow.Author.Tests.{lt-ltb, le-ltb, le-leb, lt-leb}
+use borrow.Author.Tests.{lt-ltb, le-ltb}
 use lib.ListN.{length, drop, getD, drop-of-length-le}
 use lib.Seq.{drop-cons, getD-drop}
 use Rattle.division.proofs.Cases.{under}
-use Rattle.lanes.specs.Stands.{later, second, stands, standingFrom, standing, waiting, before}
+use Rattle.stands.specs.Stands.{stands, standingFrom, standing, before}
 use Rattle.lanes.specs.Blocks.{Stand, padded, Good}
 
 -- the byte before a place, as the text behind three zeros has it
@@ -70,41 +70,3 @@ module _ (text : List ℕ) (b3 b2 b1 at : ℕ) (o : Come text b3 b2 b1 at) where
     come-next s =
         let e : standingFrom b3 b2 b1 (drop at text) ≡ suc (standingFrom b2 b1 (getD text at 0) (drop (suc at) text)) = rw (drop-cons text at 0 h, s) in
         record { inside = omega arith; same = rw (add-one at) (omega (arith, o .same)) }
-
--- ---- how many bytes wait
-
-module _ (b3 b2 b1 : ℕ) where
-  pub waits-one : 0xC0 ≤ b1 → waiting b3 b2 b1 ≡ 1
-  unfolding waiting
-  waits-one h = rw (le-leb 0xC0 b1 h)
-
-  pub waits-two : b1 < 0xC0 → 0xE0 ≤ b2 → waiting b3 b2 b1 ≡ 2
-  unfolding waiting
-  waits-two l h = rw (lt-leb 0xC0 b1 l, le-leb 0xE0 b2 h)
-
-  pub waits-three : b1 < 0xC0 → b2 < 0xE0 → 0xF0 ≤ b3 → waiting b3 b2 b1 ≡ 3
-  unfolding waiting
-  waits-three l m h = rw (lt-leb 0xC0 b1 l, lt-leb 0xE0 b2 m, le-leb 0xF0 b3 h)
-
-  pub waits-none : b1 < 0xC0 → b2 < 0xE0 → b3 < 0xF0 → waiting b3 b2 b1 ≡ 0
-  unfolding waiting
-  waits-none l m h = rw (lt-leb 0xC0 b1 l, lt-leb 0xE0 b2 m, lt-leb 0xF0 b3 h)
-
--- ---- when a byte stands well, by what the three before it ask for
-
-module _ (b3 b2 b1 b0 : ℕ) where
-  pub stands-second : 0xC0 ≤ b1 → stands b3 b2 b1 b0 ≡ second b1 b0
-  unfolding stands
-  stands-second h = rw (le-leb 0xC0 b1 h)
-
-  pub stands-third : b1 < 0xC0 → 0xE0 ≤ b2 → stands b3 b2 b1 b0 ≡ later b0
-  unfolding stands
-  stands-third l h = rw (lt-leb 0xC0 b1 l, le-leb 0xE0 b2 h)
-
-  pub stands-fourth : b1 < 0xC0 → b2 < 0xE0 → 0xF0 ≤ b3 → stands b3 b2 b1 b0 ≡ later b0
-  unfolding stands
-  stands-fourth l m h = rw (lt-leb 0xC0 b1 l, lt-leb 0xE0 b2 m, le-leb 0xF0 b3 h)
-
-  pub stands-first : b1 < 0xC0 → b2 < 0xE0 → b3 < 0xF0 → stands b3 b2 b1 b0 ≡ not (later b0)
-  unfolding stands
-  stands-first l m h = rw (lt-leb 0xC0 b1 l, lt-leb 0xE0 b2 m, lt-leb 0xF0 b3 h)

@@ -11,7 +11,7 @@ use lib.Bits.{bitOr, or-add-and, and-le-l, and-le-r}
 use lib.ListN.{length, take, drop, getD, length-drop}
 use lib.Seq.{drop-drop, getD-drop, take-all}
 use Rattle.division.proofs.Cases.{under}
-use Rattle.lanes.specs.Stands.{stands}
+use Rattle.stands.specs.Stands.{stands}
 use Rattle.lanes.specs.Blocks.{StandsIn, Stand, Below, padded, Good}
 use Rattle.lanes.proofs.Tests.{or-left, or-right}
 

@@ -9,7 +9,7 @@ use borrow.Author.Tests.{le-leb, lt-leb, lt-ltb, leb-true, ltb-true, eq-eqb, ne-
 use lib.Bits.{bitOr, bitAnd, bitXor, or-add-and, and-le-l, and-le-r, xor-add-and, xor-zero-r, or-lt}
 use lib.Dec.{leb, ltb, eqb}
 use Rattle.division.proofs.Cases.{split, both, under}
-use Rattle.lanes.specs.Stands.{later, lowOf, highOf, second, stands}
+use Rattle.stands.specs.Stands.{later, lowOf, highOf, second, stands}
 
 -- ---- several tests in one: the bits together are below 80 where each is
 

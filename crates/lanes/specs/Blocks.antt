@@ -5,7 +5,7 @@ use mathlib.Core.Path.{_≡_}
 use mathlib.Core.Bool.{true}
 use mathlib.Core.List.{List, _∷_}
 use lib.ListN.{length, drop, getD}
-use Rattle.lanes.specs.Stands.{stands}
+use Rattle.stands.specs.Stands.{stands}
 
 -- the fourth byte of a text stands well
 abbrev pub StandsIn : List ℕ → Type 0

@@ -5,7 +5,7 @@ ghost use mathlib.Core.Bool.{true, _&&_, _||_, cond};
 ghost use Prim.Native.Nat.{ℕ, suc, _-_, _<_, _≤_};
 ghost use lib.ListN.{length};
 ghost use lib.Dec.{leb, ltb};
-ghost use Rattle.lanes.specs.Stands.{later, lowOf, highOf, second, stands, standing, before, waitingAt};
+ghost use Rattle.stands.specs.Stands.{later, stands, standing};
 ghost use Rattle.lanes.specs.Blocks.{Stand, Below, Good};
 
 // x - c where x is larger, else 0.
@@ -22,18 +22,11 @@ fn full(t: bool) -> u8
     if t { 255 } else { 0 }
 }
 
-// Is b from low on, and below high?
-fn among(b: u8, low: u8, high: u8) -> bool
-    ensures { λ r. ⌜ r ≡ leb low b && ltb b high ⌝ }
-{
-    low <= b && b < high
-}
-
 // Below 0x80 only where b is a later byte exactly if must is 0x80 or more.
 fn asked(must: u8, b: u8) -> u8
     ensures { λ r. ⌜ (r < 0x80 → later b ≡ leb 0x80 must) ⌝ }
 {
-    must ^ full(among(b, 0x80, 0xC0))
+    must ^ full(stands::among(b, 0x80, 0xC0))
 }
 
 // Below 0x80 only where low is true if last is, and false if first is.
@@ -63,7 +56,7 @@ fn lane_three(b2: u8, b1: u8, b0: u8) -> u8
 {
     asked(less(b1, 64) | less(b2, 96), b0)
         | overlong(b1)
-        | edge(b1 == 0xE0, b1 == 0xED, among(b0, 0x80, 0xA0))
+        | edge(b1 == 0xE0, b1 == 0xED, stands::among(b0, 0x80, 0xA0))
 }
 
 // The same behind b3, b2 and b1, for any bytes.
@@ -73,8 +66,8 @@ fn lane_four(b3: u8, b2: u8, b1: u8, b0: u8) -> u8
     asked(less(b1, 64) | less(b2, 96) | less(b3, 112), b0)
         | overlong(b1)
         | less(b1, 117)
-        | edge(b1 == 0xE0, b1 == 0xED, among(b0, 0x80, 0xA0))
-        | edge(b1 == 0xF0, b1 == 0xF4, among(b0, 0x80, 0x90))
+        | edge(b1 == 0xE0, b1 == 0xED, stands::among(b0, 0x80, 0xA0))
+        | edge(b1 == 0xF0, b1 == 0xF4, stands::among(b0, 0x80, 0x90))
 }
 
 fn larger(a: u8, b: u8) -> u8
@@ -343,51 +336,6 @@ fn plain_all(text: &[u8]) -> usize
     at
 }
 
-fn low_of(b: u8) -> u8
-    ensures { λ r. ⌜ r ≡ lowOf b ⌝ }
-{
-    if b == 0xE0 {
-        return 0xA0;
-    }
-    if b == 0xF0 { 0x90 } else { 0x80 }
-}
-
-fn high_of(b: u8) -> u8
-    ensures { λ r. ⌜ r ≡ highOf b ⌝ }
-{
-    if b == 0xED {
-        return 0xA0;
-    }
-    if b == 0xF4 { 0x90 } else { 0xC0 }
-}
-
-// Does b1 begin a sequence, and may b0 be its second byte?
-fn seconds(b1: u8, b0: u8) -> bool
-    ensures { λ r. ⌜ r ≡ second b1 b0 ⌝ }
-{
-    if !among(b1, 0xC2, 0xF5) {
-        return false;
-    }
-    among(b0, low_of(b1), high_of(b1))
-}
-
-// Does b0 stand well behind b3, b2 and b1?
-fn stand(b3: u8, b2: u8, b1: u8, b0: u8) -> bool
-    ensures { λ r. ⌜ r ≡ stands b3 b2 b1 b0 ⌝ }
-{
-    if 0xC0 <= b1 {
-        return seconds(b1, b0);
-    }
-    let found = among(b0, 0x80, 0xC0);
-    if 0xE0 <= b2 {
-        return found;
-    }
-    if 0xF0 <= b3 {
-        return found;
-    }
-    !found
-}
-
 // Do the first three bytes of a text stand well?
 fn right_first(text: &[u8]) -> bool
     requires { ⌜ 3 ≤ length (now text) ⌝ }
@@ -395,13 +343,13 @@ fn right_first(text: &[u8]) -> bool
 {
     let a = text[0];
     let b = text[1];
-    if !stand(0, 0, 0, a) {
+    if !stands::stand(0, 0, 0, a) {
         return false;
     }
-    if !stand(0, 0, a, b) {
+    if !stands::stand(0, 0, a, b) {
         return false;
     }
-    stand(0, a, b, text[2])
+    stands::stand(0, a, b, text[2])
 }
 
 // So many bytes at the start of a text stand well. There may be more.
@@ -425,32 +373,18 @@ fn sure(text: &[u8]) -> usize
     shrinking(text, 3)
 }
 
-// The byte that stands k before a place, and 0 where there is none.
-fn byte_before(text: &[u8], at: usize, k: usize) -> u8
-    ensures { λ r. ⌜ r ≡ before (now (text .entry)) at k ⌝ }
-{
-    if at < k {
-        return 0;
-    }
-    let i = at - k;
-    if text.len() <= i {
-        return 0;
-    }
-    text[i]
-}
-
 // Goes on byte by byte from a place up to which a text stands well.
 fn onward(text: &[u8], from: usize) -> usize
     requires { ⌜ Good (now text) from ⌝ }
     ensures { λ r. ⌜ r ≡ standing (now (text .entry)) ⌝ }
 {
-    let mut b3 = byte_before(text, from, 3);
-    let mut b2 = byte_before(text, from, 2);
-    let mut b1 = byte_before(text, from, 1);
+    let mut b3 = stands::byte_before(text, from, 3);
+    let mut b2 = stands::byte_before(text, from, 2);
+    let mut b1 = stands::byte_before(text, from, 1);
     let mut at = from;
     while at < text.len() {
         let b0 = text[at];
-        if !stand(b3, b2, b1, b0) {
+        if !stands::stand(b3, b2, b1, b0) {
             return at;
         }
         b3 = b2;
@@ -467,20 +401,4 @@ pub fn standing(text: &[u8]) -> usize
 {
     let from = sure(text);
     onward(text, from)
-}
-
-// How many bytes before a place wait for more, where those before it stand well?
-pub fn waiting(text: &[u8], at: usize) -> usize
-    ensures { λ r. ⌜ r ≡ waitingAt (now (text .entry)) at ⌝ }
-{
-    if 0xC0 <= byte_before(text, at, 1) {
-        return 1;
-    }
-    if 0xE0 <= byte_before(text, at, 2) {
-        return 2;
-    }
-    if 0xF0 <= byte_before(text, at, 3) {
-        return 3;
-    }
-    0
 }

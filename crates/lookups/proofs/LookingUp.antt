@@ -17,7 +17,7 @@ use Rattle.place.specs.declared.Place.{Place}
 use Rattle.place.specs.declared.Placed.{Placed}
 use Rattle.place.specs.declared.Placed.the-variants.{At, Refused}
 use Rattle.place.proofs.Telling.{told-counts, told-placed}
-use Rattle.index.proofs.Entries.{same-sound, same-refl, same-places}
+use Rattle.audit.proofs.Entries.{same-sound, same-refl, same-places}
 
 -- ---- places by their counts, refusals by their number and values
 

@@ -4,7 +4,7 @@ use mathlib.Core.Path.{_≡_}
 use Prim.Native.Nat.{ℕ}
 use mathlib.Core.List.{List}
 use lib.ListN.{length, take}
-use Rattle.index.specs.Checkpoints.{needed, indexOf}
+use Rattle.checkpoints.specs.Checkpoints.{needed, indexOf}
 
 -- its first numbers are the text's index
 abbrev pub IsIndex : List ℕ → List ℕ → Type 0

@@ -10,5 +10,5 @@ pub fn audited(text: &[u8], cuts: &[usize], row: &mut [u32]) -> bool
     if !building::build_in_pieces(text, cuts, row) {
         return building::may_refuse(text.len(), row.len());
     }
-    index::audit(text, row)
+    audit::audit(text, row)
 }

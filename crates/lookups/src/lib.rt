@@ -49,13 +49,13 @@ fn agree(text: &[u8], row: &[u32], byte: Bytes, unit: Units, point: Points, line
     requires { ⌜ IsIndex (now text) (now row) ⌝ }
     ensures { λ r. ⌜ r ≡ true ⌝ }
 {
-    same(index::at_byte(text, row, byte), place::at_byte(text, byte))
-        & same(index::at_unit(text, row, unit), place::at_unit(text, unit))
+    same(index::at_byte(text, row, byte), lookup::at_byte(text, byte))
+        & same(index::at_unit(text, row, unit), lookup::at_unit(text, unit))
         & same(
             index::at_point(text, row, point),
-            place::at_point(text, point),
+            lookup::at_point(text, point),
         )
-        & same(index::at_line(text, row, line), place::at_line(text, line))
+        & same(index::at_line(text, row, line), lookup::at_line(text, line))
 }
 
 // A text, cut positions, a row with anything in it, and an offset of each kind: after a build in those pieces the indexed

@@ -14,9 +14,9 @@ use Rattle.repair.specs.declared.Finished.{Finished}
 use Rattle.watch.specs.Watching.{watching}
 use Rattle.watch.specs.declared.Watched.{Watched}
 use Rattle.telling.specs.Telling.{saying, Says, put, notCalled, Tells}
-use Rattle.telling.specs.States.{kept, decoderNumbers}
+use Rattle.states.specs.States.{kept, decoderNumbers}
 use Rattle.telling.specs.declared.Said.{Said}
-use Rattle.telling.proofs.Testing.{kept-long}
+use Rattle.states.proofs.Testing.{kept-long}
 use Rattle.telling.proofs.Wrapping.{as-said}
 use Rattle.outside.specs.Keeping.{Starts, Feeds, Finishes, Watches}
 

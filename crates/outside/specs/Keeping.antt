@@ -14,8 +14,8 @@ use Rattle.repair.specs.State.{fed, ended, closed}
 use Rattle.repair.specs.Feeding.{startSays, feedSays, finishSays}
 use Rattle.watch.specs.Watching.{watching}
 use Rattle.telling.specs.Telling.{notCalled, Tells}
-use Rattle.telling.specs.Keeping.{stored}
-use Rattle.telling.specs.States.{decoderNumbers}
+use Rattle.states.specs.Keeping.{stored}
+use Rattle.states.specs.States.{decoderNumbers}
 
 pub record Starts (called : Bool) (room : ℕ) (state state′ says says′ : List ℕ) (r : ℕ) : Type 0 where
   pub tells : Tells called (startSays room) says says′ r

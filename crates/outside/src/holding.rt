@@ -6,16 +6,17 @@ ghost use Rattle.terms.specs.Told.{bit};
 ghost use Rattle.utf8.specs.Pending.{padded};
 ghost use Rattle.pending.specs.Tail.{settledSize, isTail, seamOf};
 ghost use Rattle.telling.specs.Telling.{roomy, notCalled, Tells};
-ghost use Rattle.telling.specs.States.{isState, ready, three, heldOf, firstOf, seamNumbers};
+ghost use Rattle.states.specs.States.{isState, ready, heldOf, firstOf};
+ghost use Rattle.answers.specs.Answers.{three, seamNumbers};
 
 #[no_mangle]
 pub extern "C" fn outside_pending_is_tail(held: &[usize], n: usize) -> usize
     ensures { λ r. ⌜ r ≡ cond (isState 3 (now (held .entry))) (bit (isTail (heldOf (now (held .entry))) n)) notCalled ⌝ }
 {
-    if !telling::states::is_state(held, 3) {
+    if !states::is_state(held, 3) {
         return telling::NOT_CALLED;
     }
-    telling::number_of(pending::is_tail(telling::states::held_of(held), n))
+    answers::number_of(pending::is_tail(states::held_of(held), n))
 }
 
 #[no_mangle]
@@ -32,11 +33,11 @@ pub extern "C" fn outside_pending_seam_of(
         (now (says .exit))
         r ⌝ }
 {
-    if !telling::states::is_state(held, 3) {
+    if !states::is_state(held, 3) {
         return telling::NOT_CALLED;
     }
     telling::tell(
-        telling::say_seam(pending::seam_of(telling::states::held_of(held), n, piece)),
+        answers::say_seam(pending::seam_of(states::held_of(held), n, piece)),
         says,
     )
 }
@@ -50,7 +51,7 @@ pub extern "C" fn outside_pending_hold(left: &[u8], says: &mut [usize]) -> usize
         (now (says .exit))
         r ⌝ }
 {
-    telling::tell(telling::say_held(pending::hold(left)), says)
+    telling::tell(answers::say_held(pending::hold(left)), says)
 }
 
 #[no_mangle]
@@ -60,5 +61,5 @@ pub extern "C" fn outside_pending_settled_size(kind: usize, n: usize) -> usize
     if 4 <= kind {
         return telling::NOT_CALLED;
     }
-    pending::settled_size(telling::states::first_of(kind, n))
+    pending::settled_size(states::first_of(kind, n))
 }

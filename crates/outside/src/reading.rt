@@ -18,7 +18,7 @@ pub extern "C" fn outside_utf8_check(text: &[u8], says: &mut [usize]) -> usize
         (now (says .exit))
         r ⌝ }
 {
-    telling::tell(telling::say_checked(utf8::check(text)), says)
+    telling::tell(answers::say_checked(strict_utf8::check(text)), says)
 }
 
 #[no_mangle]
@@ -30,7 +30,7 @@ pub extern "C" fn outside_utf8_segment(text: &[u8], says: &mut [usize]) -> usize
         (now (says .exit))
         r ⌝ }
 {
-    telling::tell(telling::say_first(utf8::segment(text)), says)
+    telling::tell(answers::say_first(utf8::segment(text)), says)
 }
 
 #[no_mangle]
@@ -42,7 +42,7 @@ pub extern "C" fn outside_utf8_point(text: &[u8], says: &mut [usize]) -> usize
         (now (says .exit))
         r ⌝ }
 {
-    telling::tell(telling::say_point(utf8::point(text)), says)
+    telling::tell(answers::say_point(utf8::point(text)), says)
 }
 
 #[no_mangle]
@@ -54,7 +54,7 @@ pub extern "C" fn outside_utf16_check(text: &[u16], says: &mut [usize]) -> usize
         (now (says .exit))
         r ⌝ }
 {
-    telling::tell(telling::say_checked(utf16::check(text)), says)
+    telling::tell(answers::say_checked(strict_utf16::check(text)), says)
 }
 
 #[no_mangle]
@@ -66,7 +66,7 @@ pub extern "C" fn outside_utf16_segment(text: &[u16], says: &mut [usize]) -> usi
         (now (says .exit))
         r ⌝ }
 {
-    telling::tell(telling::say_first(utf16::segment(text)), says)
+    telling::tell(answers::say_first(utf16::segment(text)), says)
 }
 
 #[no_mangle]
@@ -78,7 +78,7 @@ pub extern "C" fn outside_utf16_point(text: &[u16], says: &mut [usize]) -> usize
         (now (says .exit))
         r ⌝ }
 {
-    telling::tell(telling::say_point(utf16::point(text)), says)
+    telling::tell(answers::say_point(utf16::point(text)), says)
 }
 
 #[no_mangle]
@@ -90,7 +90,7 @@ pub extern "C" fn outside_points_check(text: &[u32], says: &mut [usize]) -> usiz
         (now (says .exit))
         r ⌝ }
 {
-    telling::tell(telling::say_checked(points::check(text)), says)
+    telling::tell(answers::say_checked(points::check(text)), says)
 }
 
 #[no_mangle]
@@ -102,7 +102,7 @@ pub extern "C" fn outside_points_segment(text: &[u32], says: &mut [usize]) -> us
         (now (says .exit))
         r ⌝ }
 {
-    telling::tell(telling::say_first(points::segment(text)), says)
+    telling::tell(answers::say_first(points::segment(text)), says)
 }
 
 #[no_mangle]
@@ -114,5 +114,5 @@ pub extern "C" fn outside_points_point(text: &[u32], says: &mut [usize]) -> usiz
         (now (says .exit))
         r ⌝ }
 {
-    telling::tell(telling::say_point(points::point(text)), says)
+    telling::tell(answers::say_point(points::point(text)), says)
 }

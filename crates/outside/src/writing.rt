@@ -7,7 +7,7 @@ ghost use Rattle.utf8.specs.Scalar.{utf8};
 ghost use Rattle.utf16.specs.Scalar.{utf16};
 ghost use Rattle.points.specs.Points.{codes, noScalar};
 ghost use Rattle.telling.specs.Telling.{roomy};
-ghost use Rattle.telling.specs.Keeping.{Writes};
+ghost use Rattle.telling.specs.Writing.{Writes};
 
 #[no_mangle]
 pub extern "C" fn outside_bytes_to_units(text: &[u8], out: &mut [u16], says: &mut [usize]) -> usize
@@ -24,7 +24,7 @@ pub extern "C" fn outside_bytes_to_units(text: &[u8], out: &mut [u16], says: &mu
     if says.len() < telling::ROOM {
         return telling::NOT_CALLED;
     }
-    telling::tell(telling::say_written(from_bytes::to_units(text, out)), says)
+    telling::tell(answers::say_written(from_bytes::to_units(text, out)), says)
 }
 
 #[no_mangle]
@@ -42,7 +42,7 @@ pub extern "C" fn outside_bytes_to_codes(text: &[u8], out: &mut [u32], says: &mu
     if says.len() < telling::ROOM {
         return telling::NOT_CALLED;
     }
-    telling::tell(telling::say_written(from_bytes::to_codes(text, out)), says)
+    telling::tell(answers::say_written(from_bytes::to_codes(text, out)), says)
 }
 
 #[no_mangle]
@@ -60,7 +60,7 @@ pub extern "C" fn outside_bytes_repair(text: &[u8], out: &mut [u8], says: &mut [
     if says.len() < telling::ROOM {
         return telling::NOT_CALLED;
     }
-    telling::tell(telling::say_written(from_bytes::repair(text, out)), says)
+    telling::tell(answers::say_written(mending::repair(text, out)), says)
 }
 
 #[no_mangle]
@@ -83,7 +83,7 @@ pub extern "C" fn outside_bytes_repair_to_units(
         return telling::NOT_CALLED;
     }
     telling::tell(
-        telling::say_written(from_bytes::repair_to_units(text, out)),
+        answers::say_written(from_bytes::repair_to_units(text, out)),
         says,
     )
 }
@@ -103,7 +103,7 @@ pub extern "C" fn outside_units_to_bytes(text: &[u16], out: &mut [u8], says: &mu
     if says.len() < telling::ROOM {
         return telling::NOT_CALLED;
     }
-    telling::tell(telling::say_written(from_units::to_bytes(text, out)), says)
+    telling::tell(answers::say_written(from_units::to_bytes(text, out)), says)
 }
 
 #[no_mangle]
@@ -121,7 +121,7 @@ pub extern "C" fn outside_units_to_codes(text: &[u16], out: &mut [u32], says: &m
     if says.len() < telling::ROOM {
         return telling::NOT_CALLED;
     }
-    telling::tell(telling::say_written(from_units::to_codes(text, out)), says)
+    telling::tell(answers::say_written(from_units::to_codes(text, out)), says)
 }
 
 #[no_mangle]
@@ -139,7 +139,7 @@ pub extern "C" fn outside_units_repair(text: &[u16], out: &mut [u16], says: &mut
     if says.len() < telling::ROOM {
         return telling::NOT_CALLED;
     }
-    telling::tell(telling::say_written(from_units::repair(text, out)), says)
+    telling::tell(answers::say_written(from_units::repair(text, out)), says)
 }
 
 #[no_mangle]
@@ -162,7 +162,7 @@ pub extern "C" fn outside_units_repair_to_bytes(
         return telling::NOT_CALLED;
     }
     telling::tell(
-        telling::say_written(from_units::repair_to_bytes(text, out)),
+        answers::say_written(from_units::repair_to_bytes(text, out)),
         says,
     )
 }
@@ -182,7 +182,7 @@ pub extern "C" fn outside_points_to_bytes(text: &[u32], out: &mut [u8], says: &m
     if says.len() < telling::ROOM {
         return telling::NOT_CALLED;
     }
-    telling::tell(telling::say_written(from_points::to_bytes(text, out)), says)
+    telling::tell(answers::say_written(from_points::to_bytes(text, out)), says)
 }
 
 #[no_mangle]
@@ -204,5 +204,5 @@ pub extern "C" fn outside_points_to_units(
     if says.len() < telling::ROOM {
         return telling::NOT_CALLED;
     }
-    telling::tell(telling::say_written(from_points::to_units(text, out)), says)
+    telling::tell(answers::say_written(from_points::to_units(text, out)), says)
 }

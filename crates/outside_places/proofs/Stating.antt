@@ -9,9 +9,9 @@ use Rattle.build.specs.Building as build
 use Rattle.build.specs.declared.Builder.{Builder}
 use Rattle.build.specs.declared.Built.{Built}
 use Rattle.telling.specs.Telling.{saying, Says, put, notCalled, Tells}
-use Rattle.telling.specs.States.{kept, builderNumbers}
+use Rattle.states.specs.States.{kept, builderNumbers}
 use Rattle.telling.specs.declared.Said.{Said}
-use Rattle.telling.proofs.Testing.{kept-long}
+use Rattle.states.proofs.Testing.{kept-long}
 use Rattle.telling.proofs.Wrapping.{as-said}
 use Rattle.outside_places.specs.Keeping.{Freshens, Builds, Ends}
 

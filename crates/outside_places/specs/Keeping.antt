@@ -9,8 +9,8 @@ use Rattle.terms.specs.Told.{ifGranted}
 use Rattle.build.specs.Building as build
 use Rattle.build.specs.declared.Builder.{Builder}
 use Rattle.telling.specs.Telling.{notCalled, Tells}
-use Rattle.telling.specs.Keeping.{stored}
-use Rattle.telling.specs.States.{builderNumbers}
+use Rattle.states.specs.Keeping.{stored}
+use Rattle.states.specs.States.{builderNumbers}
 
 pub record Freshens (called : Bool) (state state′ : List ℕ) (r : ℕ) : Type 0 where
   pub reply : r ≡ cond called 0 notCalled

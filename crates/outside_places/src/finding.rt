@@ -11,30 +11,31 @@ ghost use Rattle.terms.specs.Told.{bit};
 ghost use Rattle.place.specs.Cutting.{beginning};
 ghost use Rattle.place.specs.Lookup.{lookupSays};
 ghost use Rattle.place.specs.Walk.{resumeSays, lastSays};
-ghost use Rattle.index.specs.Checkpoints.{placeOf};
-ghost use Rattle.index.specs.Looking.{byteSays, halvingSays, auditSays};
+ghost use Rattle.checkpoints.specs.Checkpoints.{placeOf};
+ghost use Rattle.index.specs.Looking.{byteSays, halvingSays};
+ghost use Rattle.audit.specs.Audits.{auditSays};
 ghost use Rattle.telling.specs.Telling.{roomy, Tells};
-ghost use Rattle.telling.specs.States.{asked, measureOf};
+ghost use Rattle.states.specs.States.{asked, measureOf};
 
 #[no_mangle]
 pub extern "C" fn outside_cut_bytes(text: &[u8], most: usize) -> usize
     ensures { λ r. ⌜ r ≡ length (beginning (λ p. p .bytes) most (now (text .entry))) ⌝ }
 {
-    place::cut_bytes(text, Bytes(most)).len()
+    cutting::cut_bytes(text, Bytes(most)).len()
 }
 
 #[no_mangle]
 pub extern "C" fn outside_cut_units(text: &[u8], most: usize) -> usize
     ensures { λ r. ⌜ r ≡ length (beginning (λ p. p .units) most (now (text .entry))) ⌝ }
 {
-    place::cut_units(text, Units(most)).len()
+    cutting::cut_units(text, Units(most)).len()
 }
 
 #[no_mangle]
 pub extern "C" fn outside_cut_points(text: &[u8], most: usize) -> usize
     ensures { λ r. ⌜ r ≡ length (beginning (λ p. p .points) most (now (text .entry))) ⌝ }
 {
-    place::cut_points(text, Points(most)).len()
+    cutting::cut_points(text, Points(most)).len()
 }
 
 #[no_mangle]
@@ -47,7 +48,7 @@ pub extern "C" fn outside_plain_byte(text: &[u8], offset: usize, says: &mut [usi
         r ⌝ }
 {
     telling::tell(
-        telling::say_placed(place::at_byte(text, Bytes(offset))),
+        answers::say_placed(lookup::at_byte(text, Bytes(offset))),
         says,
     )
 }
@@ -62,7 +63,7 @@ pub extern "C" fn outside_plain_unit(text: &[u8], offset: usize, says: &mut [usi
         r ⌝ }
 {
     telling::tell(
-        telling::say_placed(place::at_unit(text, Units(offset))),
+        answers::say_placed(lookup::at_unit(text, Units(offset))),
         says,
     )
 }
@@ -77,7 +78,7 @@ pub extern "C" fn outside_plain_point(text: &[u8], offset: usize, says: &mut [us
         r ⌝ }
 {
     telling::tell(
-        telling::say_placed(place::at_point(text, Points(offset))),
+        answers::say_placed(lookup::at_point(text, Points(offset))),
         says,
     )
 }
@@ -92,7 +93,7 @@ pub extern "C" fn outside_plain_line(text: &[u8], offset: usize, says: &mut [usi
         r ⌝ }
 {
     telling::tell(
-        telling::say_placed(place::at_line(text, Lines(offset))),
+        answers::say_placed(lookup::at_line(text, Lines(offset))),
         says,
     )
 }
@@ -112,7 +113,7 @@ pub extern "C" fn outside_index_byte(
         r ⌝ }
 {
     telling::tell(
-        telling::say_placed(index::at_byte(text, row, Bytes(offset))),
+        answers::say_placed(index::at_byte(text, row, Bytes(offset))),
         says,
     )
 }
@@ -132,7 +133,7 @@ pub extern "C" fn outside_index_unit(
         r ⌝ }
 {
     telling::tell(
-        telling::say_placed(index::at_unit(text, row, Units(offset))),
+        answers::say_placed(index::at_unit(text, row, Units(offset))),
         says,
     )
 }
@@ -152,7 +153,7 @@ pub extern "C" fn outside_index_point(
         r ⌝ }
 {
     telling::tell(
-        telling::say_placed(index::at_point(text, row, Points(offset))),
+        answers::say_placed(index::at_point(text, row, Points(offset))),
         says,
     )
 }
@@ -172,7 +173,7 @@ pub extern "C" fn outside_index_line(
         r ⌝ }
 {
     telling::tell(
-        telling::say_placed(index::at_line(text, row, Lines(offset))),
+        answers::say_placed(index::at_line(text, row, Lines(offset))),
         says,
     )
 }
@@ -181,7 +182,7 @@ pub extern "C" fn outside_index_line(
 pub extern "C" fn outside_index_audit(text: &[u8], row: &[u32]) -> usize
     ensures { λ r. ⌜ r ≡ bit (auditSays (now (text .entry)) (now (row .entry))) ⌝ }
 {
-    telling::number_of(index::audit(text, row))
+    answers::number_of(audit::audit(text, row))
 }
 
 #[no_mangle]
@@ -206,10 +207,10 @@ pub extern "C" fn outside_plain_resume(
         return telling::NOT_CALLED;
     }
     telling::tell(
-        telling::say_placed(place::resume(
+        answers::say_placed(lookup::resume(
             text,
-            telling::states::place_of(from),
-            telling::states::offset_of(kind, offset),
+            states::place_of(from),
+            states::offset_of(kind, offset),
         )),
         says,
     )
@@ -237,10 +238,10 @@ pub extern "C" fn outside_plain_last(
         return telling::NOT_CALLED;
     }
     telling::tell(
-        telling::say_placed(place::last(
+        answers::say_placed(cutting::last(
             text,
-            telling::states::place_of(from),
-            telling::states::offset_of(kind, offset),
+            states::place_of(from),
+            states::offset_of(kind, offset),
         )),
         says,
     )

@@ -2,7 +2,7 @@
 use build::Builder;
 ghost use lib.ListN.{length};
 ghost use lib.Dec.{leb};
-ghost use Rattle.telling.specs.States.{ready, builderOf};
+ghost use Rattle.states.specs.States.{ready, builderOf};
 ghost use Rattle.outside_places.specs.Keeping.{Freshens, Builds, Ends};
 
 #[no_mangle]
@@ -12,7 +12,7 @@ pub extern "C" fn outside_build_fresh(state: &mut [usize]) -> usize
     if state.len() < 8 {
         return telling::NOT_CALLED;
     }
-    telling::states::keep_builder(Builder::fresh(), state);
+    states::keep_builder(Builder::fresh(), state);
     0
 }
 
@@ -27,17 +27,17 @@ pub extern "C" fn outside_build_feed(
         (now (piece .entry)) (now (row .entry)) (now (row .exit))
         (now (state .entry)) (now (state .exit)) (now (says .entry)) (now (says .exit)) r ⌝ }
 {
-    if !telling::states::is_state(state, 8) {
+    if !states::is_state(state, 8) {
         return telling::NOT_CALLED;
     }
     if says.len() < telling::ROOM {
         return telling::NOT_CALLED;
     }
-    let built = build::feed(telling::states::builder_of(state), piece, row);
+    let built = build::feed(states::builder_of(state), piece, row);
     let answer = built.answer;
     let next = built.state;
-    telling::states::keep_builder(next, state);
-    telling::tell(telling::say_building(answer), says)
+    states::keep_builder(next, state);
+    telling::tell(answers::say_building(answer), says)
 }
 
 #[no_mangle]
@@ -50,15 +50,15 @@ pub extern "C" fn outside_build_finish(
         (now (row .entry)) (now (row .exit))
         (now (state .entry)) (now (state .exit)) (now (says .entry)) (now (says .exit)) r ⌝ }
 {
-    if !telling::states::is_state(state, 8) {
+    if !states::is_state(state, 8) {
         return telling::NOT_CALLED;
     }
     if says.len() < telling::ROOM {
         return telling::NOT_CALLED;
     }
-    let built = build::finish(telling::states::builder_of(state), row);
+    let built = build::finish(states::builder_of(state), row);
     let answer = built.answer;
     let next = built.state;
-    telling::states::keep_builder(next, state);
-    telling::tell(telling::say_building(answer), says)
+    states::keep_builder(next, state);
+    telling::tell(answers::say_building(answer), says)
 }

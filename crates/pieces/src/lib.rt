@@ -109,7 +109,7 @@ pub fn pieces(
         (specs.lent (now (whole .entry)) (now (once .entry)) (now («once_list» .entry)) (now (parts .entry)) (now («parts_list» .entry))))
         r ⌝ }
 {
-    match from_bytes::repair(text, whole) {
+    match mending::repair(text, whole) {
         Written::Count(n) => fed_alike(
             text,
             cuts,

@@ -1,7 +1,7 @@
 -- One step of a walk: the place behind the segment that the reader told.
 -- Assumes nothing.
-use mathlib.Core.Path.{_≡_, refl, ap}
-use Prim.Native.Nat.{ℕ, suc, _+_, _-_, _≤_, _<_}
+use mathlib.Core.Path.{_≡_, refl, ap, _∙_}
+use Prim.Native.Nat.{ℕ, suc, _+_, _-_, _%_, _^_, _≤_, _<_}
 use mathlib.Core.List.{List, [], _∷_}
 use lib.ListN.{length, getD, take, drop, length-drop}
 use lib.Seq.{drop-drop}
@@ -17,11 +17,15 @@ use Rattle.terms.proofs.Walking.{part-is}
 use Rattle.utf8.specs.Bytes.{bytes}
 use Rattle.utf8.proofs.Rows.{bytes-division}
 use Rattle.place.specs.Measures.{place, unitsOf, ruler}
-use Rattle.place.specs.Walk.{unitsBySize, linesByHead, stepped}
+use Rattle.place.specs.Walk.{unitsBySize, linesByHead, wrapped, stepped, Roomy}
 use Rattle.place.specs.declared.Place.{Place}
 use Rattle.place.proofs.Measuring.{one-or-none, units-by-size, units-within}
 
--- ---- what `step` adds: the reader told of `n` bytes at the start of a rest that is not empty
+-- ---- what `step` adds: nothing at the end of the text, or the reader told of `n` bytes at the start of the rest
+
+pub stepped-end : (p : Place) (rest : List ℕ) → length rest ≡ 0 → p ≡ stepped p rest
+stepped-end p [] h = refl
+stepped-end p (x ∷ xs) h = absurd (omega arith)
 
 told-size : (r : First) (l : Look Kind) → told.first r ≡ told.lookSays l → told.sizeOf r ≡ suc (l .more)
 told-size Nothing l e = let z : _≡_ {A = ℕ} 0 1 = cc in absurd (omega arith)
@@ -29,25 +33,33 @@ told-size (Whole n) l e = cc
 told-size (Damage n) l e = cc
 told-size (Begun n) l e = cc
 
-pub record Added (p : Place) (rest : List ℕ) (n : ℕ) : Type 0 where
-  pub inside : n ≤ length rest
-  pub units : unitsBySize n ≤ n
-  pub lines : linesByHead (getD rest 0 0) ≤ n
-  pub place-is : place (p .bytes + n) (p .units + unitsBySize n) (p .points + 1) (p .lines + linesByHead (getD rest 0 0)) ≡ stepped p rest
-
 pub added : (p : Place) (rest : List ℕ) → 0 < length rest → (r : First) → told.first r ≡ told.firstSays bytes rest → (n : ℕ) → n ≡ told.sizeOf r
-    → Added p rest n
+    → wrapped (place (p .bytes + n) (p .units + unitsBySize n) (p .points + 1) (p .lines + linesByHead (getD rest 0 0))) ≡ stepped p rest
 added p [] h r e n i = absurd (omega arith)
 added p (x ∷ xs) h r e n i =
     let s : Segment Kind = first bytes x xs in
     let f : size s ≡ suc (bytes x xs .more) = first-size bytes-division x xs in
     let k : n ≡ size s = omega (arith, told-size r (bytes x xs) e) in
-    record {
-      inside = omega (arith, bytes-division .fits x xs);
-      units = rw (k, ← units-by-size x xs) (units-within x xs);
-      lines = omega (arith, one-or-none s);
-      place-is = rw (units-by-size x xs, ← k);
-    }
+    rw (units-by-size x xs, ← k)
+
+-- THE SUMS ARE PLAIN where there is room
+wrapped-same : (p : Place) → p .bytes < 2 ^ 64 → p .units < 2 ^ 64 → p .points < 2 ^ 64 → p .lines < 2 ^ 64 → wrapped p ≡ p
+wrapped-same p b u c l =
+    let eb : p .bytes % 2 ^ 64 ≡ p .bytes = omega arith in
+    let eu : p .units % 2 ^ 64 ≡ p .units = omega arith in
+    let ec : p .points % 2 ^ 64 ≡ p .points = omega arith in
+    let el : p .lines % 2 ^ 64 ≡ p .lines = omega arith in
+    rw (eb, eu, ec, el)
+
+pub stepped-plain : (p : Place) (x : ℕ) (xs : List ℕ) → Roomy p (x ∷ xs) → stepped p (x ∷ xs) ≡ ruler .step p (first bytes x xs)
+stepped-plain p x xs r =
+    let s : Segment Kind = first bytes x xs in
+    let n : size s ≤ length (x ∷ xs) = omega (arith, first-size bytes-division x xs, bytes-division .fits x xs) in
+    wrapped-same (ruler .step p s)
+    (omega (arith, r .bytes))
+    (omega (arith, r .units, units-within x xs))
+    (omega (arith, r .points))
+    (omega (arith, r .lines, one-or-none s))
 
 -- ONE STEP: q is one segment behind p, which lies `at` bytes into the text
 pub record Taken (text : List ℕ) (at : ℕ) (p q : Place) : Type 0 where
@@ -58,19 +70,20 @@ pub record Taken (text : List ℕ) (at : ℕ) (p q : Place) : Type 0 where
   pub inside : at + size segment ≤ length text
   pub cuts : cut bytes (drop at text) ≡ segment ∷ cut bytes (drop (at + size segment) text)
 
--- it is what `step` gives of `&text[at..]`
-pub taken : (text : List ℕ) (at : ℕ) (p q : Place) → at < length text → q ≡ stepped p (take (length text - at) (drop at text))
-    → Taken text at p q
-taken text at p q h e = of-rest (drop at text) refl (rw part-is at e)
+-- it is what `step` gives of `&text[at..]`, where there is room
+pub taken : (text : List ℕ) (at : ℕ) (p q : Place) → at < length text → Roomy p (drop at text)
+    → q ≡ stepped p (take (length text - at) (drop at text)) → Taken text at p q
+taken text at p q h r e = of-rest (drop at text) refl r (rw part-is at e)
   where
-    of-rest : (rest : List ℕ) → drop at text ≡ rest → q ≡ stepped p rest → Taken text at p q
-    of-rest [] d e = absurd (omega (arith, length-drop at text, ap length d))
-    of-rest (x ∷ xs) d e =
+    of-rest : (rest : List ℕ) → drop at text ≡ rest → Roomy p rest → q ≡ stepped p rest → Taken text at p q
+    of-rest [] d r e = absurd (omega (arith, length-drop at text, ap length d))
+    of-rest (x ∷ xs) d r e =
         let n : size (first bytes x xs) ≡ suc (bytes x xs .more) = first-size bytes-division x xs in
+        let i : q ≡ ruler .step p (first bytes x xs) = e ∙ stepped-plain p x xs r in
         record {
           segment = first bytes x xs;
-          place = e;
-          bytes-are = ap (λ (r : Place). r .bytes) e;
+          place = i;
+          bytes-are = ap (λ (r : Place). r .bytes) i;
           units = units-within x xs;
           inside = omega (arith, n, length-drop at text, ap length d, bytes-division .fits x xs);
           cuts = rw (← drop-drop (size (first bytes x xs)) at text, d, n) (cut-cons bytes x xs);

@@ -1,6 +1,6 @@
 -- A walk over the places of a text: the offset that it goes to, one step of it, and what is found from a place on.
 -- Assumes nothing.
-use Prim.Native.Nat.{ℕ, _+_, _<_, _^_}
+use Prim.Native.Nat.{ℕ, _+_, _%_, _<_, _^_}
 use mathlib.Core.Bool.{Bool, cond, _&&_}
 use mathlib.Core.List.{List, [], _∷_}
 use lib.ListN.{length}
@@ -9,7 +9,7 @@ use Rattle.division.specs.Reader.{first, cut}
 use Rattle.division.specs.Place.{lookup, last}
 use Rattle.terms.specs.Limits.{limit}
 use Rattle.utf8.specs.Bytes.{bytes}
-use Rattle.place.specs.Measures.{ruler}
+use Rattle.place.specs.Measures.{place, ruler}
 use Rattle.place.specs.Lookup.{counts, foundSays}
 use Rattle.place.specs.declared.Place.{Place}
 use Rattle.place.specs.declared.Offset.{Offset}
@@ -35,10 +35,14 @@ unitsBySize n = cond (eqb n 4) 2 1
 abbrev pub linesByHead : ℕ → ℕ
 linesByHead x = cond (eqb x 0x0A) 1 0
 
--- the place one segment behind another, from which on the rest of the text is given
+-- a place with its counts modulo 2^64
+abbrev pub wrapped : Place → Place
+wrapped p = place (p .bytes % 2 ^ 64) (p .units % 2 ^ 64) (p .points % 2 ^ 64) (p .lines % 2 ^ 64)
+
+-- the place one segment behind another, from which on the rest of the text is given; counts are modulo 2^64
 abbrev pub stepped : Place → List ℕ → Place
 stepped p [] = p
-stepped p (x ∷ xs) = ruler .step p (first bytes x xs)
+stepped p (x ∷ xs) = wrapped (ruler .step p (first bytes x xs))
 
 -- no count can go past the largest number on the way through the rest
 pub record Roomy (p : Place) (rest : List ℕ) : Type 0 where
@@ -46,11 +50,6 @@ pub record Roomy (p : Place) (rest : List ℕ) : Type 0 where
   pub units : p .units + length rest < 2 ^ 64
   pub points : p .points + length rest < 2 ^ 64
   pub lines : p .lines + length rest < 2 ^ 64
-
--- and there is a segment to take
-pub record Ahead (p : Place) (rest : List ℕ) : Type 0 where
-  pub some : 0 < length rest
-  pub roomy : Roomy p rest
 
 -- ---- from a place on, from which on the rest of the text is given
 

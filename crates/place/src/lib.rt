@@ -1,12 +1,9 @@
-// Places: the boundaries of a byte text, with what lies before them in the four measures; cutting and plain lookup.
+// Places: the boundaries of a byte text, with what lies before them in the four measures, and the step from one to the next.
 use terms::Decoder;
 use terms::Refusal;
 ghost use mathlib.Core.Path.{_≡_};
 ghost use Rattle.place.specs.Measures.{place};
-ghost use Rattle.place.specs.Cutting.{beginning};
-ghost use Rattle.place.specs.Lookup.{placed, lookupSays};
-ghost use Rattle.place.specs.Walk.{number, measure, unitsBySize, linesByHead, stepped, Roomy, Ahead};
-ghost use Rattle.place.specs.Walk.{walkSays, reached, fair, over, resumeSays, lastSays};
+ghost use Rattle.place.specs.Walk.{number, measure, unitsBySize, linesByHead, stepped, fair, over};
 
 // Offsets in the four measures: none is passed for another.
 pub struct Bytes(pub usize);
@@ -82,7 +79,7 @@ impl Place {
     }
 
     // So many bytes more go past the limit.
-    fn over(self, more: usize) -> bool
+    pub fn over(self, more: usize) -> bool
         ensures { λ r. ⌜ r ≡ over self more ⌝ }
     {
         Decoder::LIMIT < self.bytes || Decoder::LIMIT - self.bytes < more
@@ -109,146 +106,18 @@ pub fn lines_of(head: u8) -> usize
     if head == 0x0A { 1 } else { 0 }
 }
 
-// The place one segment behind p; the rest of the text is given from p on.
-fn step(p: Place, rest: &[u8]) -> Place
-    requires { ⌜ Ahead p (now rest) ⌝ }
+// The place one segment behind p; the rest of the text is given from p on. Counts are modulo 2^64.
+pub fn step(p: Place, rest: &[u8]) -> Place
     ensures { λ r. ⌜ r ≡ stepped p (now (rest .entry)) ⌝ }
 {
+    if rest.len() == 0 {
+        return p;
+    }
     let size = utf8::segment(rest).size();
     Place {
-        bytes: p.bytes + size,
-        units: p.units + units_of(size),
-        points: p.points + 1,
-        lines: p.lines + lines_of(rest[0]),
+        bytes: std::num::wrapping_add_usize(p.bytes, size),
+        units: std::num::wrapping_add_usize(p.units, units_of(size)),
+        points: std::num::wrapping_add_usize(p.points, 1),
+        lines: std::num::wrapping_add_usize(p.lines, lines_of(rest[0])),
     }
-}
-
-// The last place that counts at most so much, from a place on; the text is given from there.
-fn reach(text: &[u8], from: Place, most: Offset) -> Place
-    requires { ⌜ Roomy from (now text) ⌝ }
-    ensures { λ r. ⌜ r ≡ reached (measure most) (number most) from (now (text .entry)) ⌝ }
-{
-    let mut p = from;
-    let mut at: usize = 0;
-    while at < text.len() {
-        let q = step(p, &text[at..]);
-        if most.number() < most.count(q) {
-            return p;
-        }
-        p = q;
-        at = q.bytes - from.bytes;
-    }
-    p
-}
-
-// The longest beginning of a text that ends at a boundary and counts at most so much.
-fn cut(text: &[u8], most: Offset) -> &[u8]
-    ensures { λ r. ⌜ now r ≡ beginning (measure most) (number most) (now (text .entry)) ⌝ }
-{
-    let end = reach(text, Place::start(), most);
-    &text[..end.bytes]
-}
-
-// Plain lookup from a place on; the text is given from there.
-fn walk(text: &[u8], from: Place, to: Offset) -> Placed
-    requires { ⌜ Roomy from (now text) ⌝ }
-    ensures { λ r. ⌜ placed r ≡ walkSays (measure to) (number to) from (now (text .entry)) ⌝ }
-{
-    let offset = to.number();
-    let mut p = from;
-    let mut at: usize = 0;
-    loop {
-        let count = to.count(p);
-        if count == offset {
-            return Placed::At(p);
-        }
-        if offset < count {
-            return Placed::Refused(Refusal::Inside);
-        }
-        if at == text.len() {
-            return Placed::Refused(Refusal::PastEnd);
-        }
-        p = step(p, &text[at..]);
-        at = p.bytes - from.bytes;
-    }
-}
-
-// Plain lookup: refusal 2, then the walk from the start.
-fn lookup(text: &[u8], to: Offset) -> Placed
-    ensures { λ r. ⌜ placed r ≡ lookupSays (measure to) (number to) (now (text .entry)) ⌝ }
-{
-    if Decoder::LIMIT < text.len() {
-        return Placed::Refused(Refusal::OverLimit);
-    }
-    walk(text, Place::start(), to)
-}
-
-// Plain lookup from any place on, where the text is given from there: refusal 2 and 8 before the walk.
-pub fn resume(text: &[u8], from: Place, to: Offset) -> Placed
-    ensures { λ r. ⌜ placed r ≡ resumeSays (measure to) (number to) from (now (text .entry)) ⌝ }
-{
-    if from.over(text.len()) {
-        return Placed::Refused(Refusal::OverLimit);
-    }
-    if !from.fair() {
-        return Placed::Refused(Refusal::BadState);
-    }
-    walk(text, from, to)
-}
-
-// The last place that counts at most so much from any place on, with the same refusals.
-pub fn last(text: &[u8], from: Place, most: Offset) -> Placed
-    ensures { λ r. ⌜ placed r ≡ lastSays (measure most) (number most) from (now (text .entry)) ⌝ }
-{
-    if from.over(text.len()) {
-        return Placed::Refused(Refusal::OverLimit);
-    }
-    if !from.fair() {
-        return Placed::Refused(Refusal::BadState);
-    }
-    Placed::At(reach(text, from, most))
-}
-
-// The longest beginning that ends at a boundary and has at most so many bytes, units or code points.
-pub fn cut_bytes(text: &[u8], most: Bytes) -> &[u8]
-    ensures { λ r. ⌜ now r ≡ beginning (λ p. p .bytes) (most .0) (now (text .entry)) ⌝ }
-{
-    cut(text, Offset::Byte(most))
-}
-
-pub fn cut_units(text: &[u8], most: Units) -> &[u8]
-    ensures { λ r. ⌜ now r ≡ beginning (λ p. p .units) (most .0) (now (text .entry)) ⌝ }
-{
-    cut(text, Offset::Unit(most))
-}
-
-pub fn cut_points(text: &[u8], most: Points) -> &[u8]
-    ensures { λ r. ⌜ now r ≡ beginning (λ p. p .points) (most .0) (now (text .entry)) ⌝ }
-{
-    cut(text, Offset::Point(most))
-}
-
-// The place that counts so many bytes, units, code points or lines.
-pub fn at_byte(text: &[u8], offset: Bytes) -> Placed
-    ensures { λ r. ⌜ placed r ≡ lookupSays (λ p. p .bytes) (offset .0) (now (text .entry)) ⌝ }
-{
-    lookup(text, Offset::Byte(offset))
-}
-
-pub fn at_unit(text: &[u8], offset: Units) -> Placed
-    ensures { λ r. ⌜ placed r ≡ lookupSays (λ p. p .units) (offset .0) (now (text .entry)) ⌝ }
-{
-    lookup(text, Offset::Unit(offset))
-}
-
-pub fn at_point(text: &[u8], offset: Points) -> Placed
-    ensures { λ r. ⌜ placed r ≡ lookupSays (λ p. p .points) (offset .0) (now (text .entry)) ⌝ }
-{
-    lookup(text, Offset::Point(offset))
-}
-
-pub fn at_line(text: &[u8], offset: Lines) -> Placed
-    ensures { λ r. ⌜ placed r ≡ lookupSays (λ p. p .lines) (offset .0) (now (text .entry)) ⌝ }
-{
-    lookup(text, Offset::Line(offset))
 }

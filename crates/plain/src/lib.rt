@@ -1,11 +1,10 @@
-// Plain units as UTF-8 bytes, a block of 128 at a time or 16 below 80: how many bytes they take, and the bytes at the start of an
-// output.
+// Plain units as UTF-8 bytes, a block of 128 at a time: how many bytes they take, and the bytes at the start of an output.
 ghost use mathlib.Core.Path.{_≡_};
 ghost use mathlib.Core.List.{_++_};
 ghost use Prim.Native.Nat.{_%_, _≤_};
 ghost use lib.ListN.{length, drop};
 ghost use Rattle.utf8.specs.Scalar.{sequence, later};
-ghost use Rattle.plain.specs.Block.{block, roomy, low, few, bytesOf, Counts, Puts};
+ghost use Rattle.plain.specs.Block.{block, roomy, bytesOf, Counts, Puts};
 ghost use Rattle.plain.specs.Places.{sizeOf, firstByte, secondByte, Under, Mapped, Squeezed};
 
 // How many units were read, and how many places they take.
@@ -71,7 +70,8 @@ fn third_byte(x: u16) -> u8
     (0x80 + x % 0x40) as u8
 }
 
-fn low_byte(x: u16) -> u8
+// The low byte of a unit, which is the unit where it is below 100.
+pub fn low_byte(x: u16) -> u8
     ensures { λ r. ⌜ r ≡ x % 0x100 ⌝ }
 {
     (x % 0x100) as u8
@@ -266,62 +266,5 @@ pub fn put_block(text: &[u16], out: &mut [u8]) -> Part
     Part {
         read: 128,
         places: put_mixed(units, out),
-    }
-}
-
-// Are 16 units below 80?
-fn are_low(units: &[u16]) -> bool
-    requires { ⌜ 16 ≡ length (now units) ⌝ }
-    ensures { λ r. ⌜ r ≡ low (now (units .entry)) ⌝ }
-{
-    let mut bits: u16 = 0;
-    for k in 0..16 {
-        bits |= units[k];
-    }
-    bits < 0x80
-}
-
-fn few_bytes(units: &[u16]) -> [u8; 16]
-    requires { ⌜ 16 ≡ length (now units) ⌝ }
-    requires { ⌜ Under (now units) 0x7F ⌝ }
-    ensures { λ r. ⌜ r ≡ now (units .entry) ⌝ }
-{
-    let mut row = [0u8; 16];
-    for k in 0..16 {
-        row[k] = low_byte(units[k]);
-    }
-    row
-}
-
-fn put_few_low(units: &[u16], out: &mut [u8])
-    requires { ⌜ 16 ≡ length (now units) ⌝ }
-    requires { ⌜ Under (now units) 0x7F ⌝ }
-    requires { ⌜ 16 ≤ length (now out) ⌝ }
-    ensures { λ r. ⌜ now (out .exit) ≡ now (units .entry) ++ drop 16 (now (out .entry)) ⌝ }
-{
-    let row = few_bytes(units);
-    for k in 0..16 {
-        out[k] = row[k];
-    }
-}
-
-// The bytes of the first 16 units of a text, if they are below 80 and the output has a place for each.
-pub fn put_few(text: &[u16], out: &mut [u8]) -> Part
-    ensures { λ r. ⌜ Puts (few (length (now (out .entry))) (now (text .entry))) (now (out .entry)) (now (out .exit)) r ⌝ }
-{
-    if text.len() < 16 {
-        return Part { read: 0, places: 0 };
-    }
-    if out.len() < 16 {
-        return Part { read: 0, places: 0 };
-    }
-    let units = &text[..16];
-    if !are_low(units) {
-        return Part { read: 0, places: 0 };
-    }
-    put_few_low(units, out);
-    Part {
-        read: 16,
-        places: 16,
     }
 }

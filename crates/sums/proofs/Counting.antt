@@ -12,7 +12,7 @@ use native.Mathlib.Omega.{arith}
 use Rattle.division.specs.Tally.{total}
 use Rattle.division.proofs.Cases.{split}
 use Rattle.division.proofs.Dividing.{total-append}
-use Rattle.lanes.specs.Stands.{later}
+use Rattle.stands.specs.Stands.{later}
 use Rattle.sums.specs.Counts.{startOf, fourOf, endOf, sumsOf}
 use Rattle.sums.specs.declared.Sums.{Sums}
 

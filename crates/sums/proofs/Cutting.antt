@@ -11,7 +11,7 @@ use Rattle.division.specs.Reader.{first, rest, cut}
 use Rattle.division.proofs.Cases.{split, under}
 use Rattle.division.proofs.Dividing.{cut-nil, cut-cons, by-segments}
 use Rattle.terms.proofs.Converting.{AllWhole}
-use Rattle.lanes.specs.Stands.{later}
+use Rattle.stands.specs.Stands.{later}
 use Rattle.utf8.specs.Bytes.{bytes}
 use Rattle.utf8.proofs.Rows.{bytes-division}
 use Rattle.sums.specs.Counts.{startOf}

@@ -17,7 +17,7 @@ use Rattle.division.proofs.Cases.{All, split, both}
 use Rattle.division.proofs.Dividing.{total-append, cut-nil, cut-cons, by-segments}
 use Rattle.division.proofs.Matching.{by-rows, whole-sequence, cut-sequence}
 use Rattle.terms.proofs.Converting.{AllWhole}
-use Rattle.lanes.specs.Stands.{later}
+use Rattle.stands.specs.Stands.{later}
 use Rattle.utf8.specs.Bytes.{rows, bytes}
 use Rattle.utf8.proofs.Rows.{rows-sound, bytes-division}
 use Rattle.sums.specs.Counts.{startOf, fourOf, endOf}

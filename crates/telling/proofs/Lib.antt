@@ -1,4 +1,2 @@
 pub mod Telling
-pub mod Testing
 pub mod Wrapping
-pub mod Asking

@@ -11,7 +11,7 @@ use Rattle.terms.specs.Writing as call
 use Rattle.terms.specs.declared.Written.{Written}
 use Rattle.telling.specs.Telling.{saying, Says, roomy, notCalled, Tells}
 use Rattle.telling.specs.declared.Said.{Said}
-use Rattle.telling.specs.Keeping.{Writes}
+use Rattle.telling.specs.Writing.{Writes}
 
 -- what is said may be said in other words
 pub as-said : {called : Bool} {a b says says′ : List ℕ} {r : ℕ} → a ≡ b → Tells called a says says′ r → Tells called b says says′ r

@@ -1,3 +1,2 @@
 pub mod Telling
-pub mod States
-pub mod Keeping
+pub mod Writing

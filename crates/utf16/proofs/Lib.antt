@@ -2,4 +2,3 @@ pub mod Rows
 pub mod Reading
 pub mod Scalars
 pub mod Plain
-pub mod Pairs

@@ -1,4 +1,3 @@
 pub mod Units
 pub mod Scalar
 pub mod Plain
-pub mod Paired

@@ -1,20 +1,13 @@
-// UTF-16: the segment and the code point that stand first in a text of units, and the strict check.
-use terms::Checked;
-use terms::Decoder;
+// UTF-16: the segment and the code point that stand first in a text of units, and whether all of them stand by themselves.
 use terms::First;
 use terms::Point;
-use terms::Refusal;
 ghost use mathlib.Core.Path.{_≡_};
-ghost use mathlib.Core.Bool.{true, not};
+ghost use mathlib.Core.Bool.{not};
 ghost use mathlib.Core.List.{[], _∷_};
-ghost use Prim.Native.Nat.{_≤_};
-ghost use lib.ListN.{length};
-ghost use Rattle.terms.specs.Told.{bit, first, firstSays, checked};
-ghost use Rattle.terms.specs.Strict.{checkSays};
+ghost use Rattle.terms.specs.Told.{bit, first, firstSays};
 ghost use Rattle.terms.specs.Form.{pointSays};
 ghost use Rattle.utf16.specs.Units.{units};
 ghost use Rattle.utf16.specs.Scalar.{utf16};
-ghost use Rattle.utf16.specs.Paired.{isFirst, isSecond, Paired, WholeTo};
 ghost use Rattle.utf16.specs.Plain.{alone, plain};
 
 // The segment that stands first in a text.
@@ -45,12 +38,6 @@ pub fn segment(text: &[u16]) -> First
         return First::Damage(1);
     }
     First::Whole(2)
-}
-
-fn wide_place(x: u16) -> usize
-    ensures { λ r. ⌜ r ≡ x ⌝ }
-{
-    x as usize
 }
 
 fn wide(x: u16) -> u32
@@ -108,82 +95,4 @@ pub fn is_plain(text: &[u16]) -> bool
         halves |= none(is_alone(text[k]));
     }
     halves == 0
-}
-
-fn first_half(x: u16) -> u16
-    ensures { λ r. ⌜ r ≡ bit (isFirst x) ⌝ }
-{
-    if x < 0xD800 {
-        return 0;
-    }
-    if 0xDC00 <= x {
-        return 0;
-    }
-    1
-}
-
-fn second_half(x: u16) -> u16
-    ensures { λ r. ⌜ r ≡ bit (isSecond x) ⌝ }
-{
-    if x < 0xDC00 {
-        return 0;
-    }
-    if 0xDFFF < x {
-        return 0;
-    }
-    1
-}
-
-// Is each of 128 units a first half exactly if the one behind it is a second half?
-fn is_paired(text: &[u16]) -> bool
-    requires { ⌜ 129 ≤ length (now text) ⌝ }
-    ensures { λ r. ⌜ (r ≡ true → Paired (now (text .entry)) 128) ⌝ }
-{
-    let mut odd: u16 = 0;
-    for k in 0..128 {
-        odd |= first_half(text[k]) ^ second_half(text[k + 1]);
-    }
-    odd == 0
-}
-
-// So many units of a text, in blocks, are whole segments. There may be more.
-fn whole_blocks(text: &[u16]) -> usize
-    ensures { λ r. ⌜ WholeTo (now (text .entry)) r ⌝ }
-{
-    let mut at: usize = 0;
-    while 129 <= text.len() - at {
-        let rest = &text[at..];
-        if second_half(rest[0]) == 1 {
-            return at;
-        }
-        if !is_paired(rest) {
-            return at;
-        }
-        at += 128 + wide_place(second_half(rest[128]));
-    }
-    at
-}
-
-// Is a text well-formed? If not, its first damage is told.
-pub fn check(text: &[u16]) -> Checked
-    ensures { λ r. ⌜ checked r ≡ checkSays units (now (text .entry)) ⌝ }
-{
-    if Decoder::LIMIT < text.len() {
-        return Checked::Refused(Refusal::OverLimit);
-    }
-    let mut at: usize = 0;
-    let mut block: usize = 0;
-    loop {
-        // where a block has damage, its length is read by segments before the next is tried
-        if block <= at {
-            at += whole_blocks(&text[at..]);
-            block = at + 128;
-        }
-        match segment(&text[at..]) {
-            First::Nothing => return Checked::WellFormed,
-            First::Whole(n) => at += n,
-            First::Damage(n) => return Checked::damaged(at, n),
-            First::Begun(n) => return Checked::damaged(at, n),
-        }
-    }
 }

@@ -1,5 +1,3 @@
 pub mod Rows
 pub mod Following
 pub mod Scalars
-pub mod Running
-pub mod Fitting

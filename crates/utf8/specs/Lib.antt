@@ -2,4 +2,3 @@ pub mod Bytes
 pub mod Lead
 pub mod Scalar
 pub mod Pending
-pub mod Run

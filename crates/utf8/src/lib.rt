@@ -1,20 +1,15 @@
-// UTF-8: the segment and the code point that stand first in a byte text, and the strict check.
-use terms::Checked;
-use terms::Decoder;
+// UTF-8: the segment and the code point that stand first in a byte text.
 use terms::First;
 use terms::Point;
-use terms::Refusal;
 ghost use mathlib.Core.Path.{_≡_};
 ghost use Prim.Native.Nat.{_≤_, _<_};
 ghost use mathlib.Core.List.{[], _∷_};
 ghost use lib.ListN.{length, take, drop};
 ghost use Rattle.division.specs.Table.{_to_, within, want, begun};
-ghost use Rattle.terms.specs.Told.{first, lookSays, firstSays, checked};
-ghost use Rattle.terms.specs.Strict.{checkSays};
+ghost use Rattle.terms.specs.Told.{first, lookSays, firstSays};
 ghost use Rattle.terms.specs.Form.{pointSays};
 ghost use Rattle.utf8.specs.Bytes.{rows, bytes};
 ghost use Rattle.utf8.specs.Lead.{ranges, wanted};
-ghost use Rattle.utf8.specs.Run.{wholeRun};
 ghost use Rattle.utf8.specs.Scalar.{number, utf8};
 
 // What a first byte tells: no sequence begins with it; or one does, and wants so many bytes more, the next from low to high
@@ -129,27 +124,4 @@ pub fn point(text: &[u8]) -> Point
             size: n,
         },
     }
-}
-
-// How many bytes come before the first damage? All of them, where there is none.
-pub fn whole_run(text: &[u8]) -> usize
-    ensures { λ r. ⌜ r ≡ wholeRun (now (text .entry)) ⌝ }
-{
-    let n = lanes::standing(text);
-    n - lanes::waiting(text, n)
-}
-
-// Is a text well-formed? If not, its first damage is told.
-pub fn check(text: &[u8]) -> Checked
-    ensures { λ r. ⌜ checked r ≡ checkSays bytes (now (text .entry)) ⌝ }
-{
-    if Decoder::LIMIT < text.len() {
-        return Checked::Refused(Refusal::OverLimit);
-    }
-    let start = whole_run(text);
-    if start == text.len() {
-        return Checked::WellFormed;
-    }
-    let damage = segment(&text[start..]);
-    Checked::damaged(start, damage.size())
 }

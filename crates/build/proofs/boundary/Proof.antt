@@ -8,7 +8,7 @@ use borrow.Author.Tests.{lt-leb, le-leb, le-ltb, lt-ltb}
 use native.Mathlib.Omega.{arith}
 use borrow.Author.Needs.{needs}
 use Rattle.division.proofs.Cases.{under}
-use Rattle.lanes.specs.Stands.{later}
+use Rattle.stands.specs.Stands.{later}
 use Rattle.build.proofs.boundary.Statement.{statement}
 use Rattle.build.proofs.boundary.Tie as tie
 

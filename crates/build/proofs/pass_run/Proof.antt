@@ -5,7 +5,7 @@ use lib.ListN.{length}
 use native.Mathlib.Omega.{arith}
 use borrow.Author.Needs.{needs}
 use Rattle.terms.proofs.Walking.{part-is}
-use Rattle.index.specs.Checkpoints.{spacing}
+use Rattle.checkpoints.specs.Checkpoints.{spacing}
 use Rattle.build.proofs.Passing.{Passed, passed-start, passed-long, passed-roomy, passed-covers, passed-holds, passed-next, passed-end}
 use Rattle.build.proofs.pass_run.Statement.{statement}
 use Rattle.build.proofs.pass_run.Tie as tie

@@ -6,7 +6,7 @@ use mathlib.Core.Bool.{false}
 use lib.ListN.{getD}
 use native.Mathlib.Omega.{arith}
 use borrow.Author.Needs.{needs}
-use Rattle.lanes.specs.Stands.{later}
+use Rattle.stands.specs.Stands.{later}
 use Rattle.sums.specs.Counts.{fourOf, endOf}
 use Rattle.build.proofs.Backing.{covered, back-begun, back-none}
 use Rattle.build.proofs.step_back.Statement.{statement}

@@ -5,7 +5,7 @@ use Prim.Native.Nat.{_≤_}
 use lib.ListN.{length}
 use native.Mathlib.Omega.{arith}
 use borrow.Author.Needs.{needs}
-use Rattle.index.specs.Checkpoints.{needed}
+use Rattle.checkpoints.specs.Checkpoints.{needed}
 use Rattle.index.proofs.Resuming.{indexed-over, indexed-short, byte-past, byte-among, byte-from}
 use Rattle.index.proofs.at_byte.Statement.{statement}
 use Rattle.index.proofs.at_byte.Tie as tie

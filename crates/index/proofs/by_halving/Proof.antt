@@ -6,7 +6,7 @@ use lib.ListN.{length}
 use native.Mathlib.Omega.{arith}
 use borrow.Author.Needs.{needs}
 use Rattle.division.specs.Index.{marks}
-use Rattle.index.specs.Checkpoints.{spacing, needed}
+use Rattle.checkpoints.specs.Checkpoints.{spacing, needed}
 use Rattle.index.proofs.Resuming.{indexed-over, indexed-short, halving-among, halving-from}
 use Rattle.index.proofs.by_halving.Statement.{statement}
 use Rattle.index.proofs.by_halving.Tie as tie

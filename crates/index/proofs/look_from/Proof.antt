@@ -10,7 +10,7 @@ use Rattle.division.specs.Index.{usable}
 use Rattle.utf8.specs.Bytes.{bytes}
 use Rattle.place.specs.Measures.{ruler}
 use Rattle.place.specs.Walk.{number, measure, fair}
-use Rattle.index.specs.Checkpoints.{spacing}
+use Rattle.checkpoints.specs.Checkpoints.{spacing}
 use Rattle.index.proofs.Resuming.{from-unusable, usable-in, from-usable, from-read}
 use Rattle.index.proofs.look_from.Statement.{statement}
 use Rattle.index.proofs.look_from.Tie as tie

@@ -2,9 +2,12 @@
 -- Assumes nothing.
 use native.Mathlib.Omega.{arith}
 use borrow.Author.Needs.{needs}
-use Rattle.place.proofs.Stepping.{Added, added}
+use Rattle.place.proofs.Stepping.{stepped-end, added}
 use Rattle.place.proofs.step.Statement.{statement}
 use Rattle.place.proofs.step.Tie as tie
+
+returns : tie.Need-returns
+returns c = let a = c .before .before .args in stepped-end (a .p) (a .rest .now) (c .if1 .taken)
 
 segment-requires : tie.Need-segment-requires
 segment-requires c κs = search needs
@@ -12,24 +15,17 @@ segment-requires c κs = search needs
 size-requires : tie.Need-size-requires
 size-requires c κs = search needs
 
--- what the reader told is added
-heard : (c : tie.After-size) → let a = c .before .before .before in Added (a .args .p) (a .args .rest .now) (c .size .result)
-heard c =
-    let g = c .before in
-    let a = g .before .before in
-    added (a .args .p) (a .args .rest .now) (a .pre .some) (g .segment .result) (g .segment .ensures) (c .size .result) (c .size .ensures)
-
-add-t5 : tie.Need-add-t5
-add-t5 c = let h = heard (c .before) in omega (arith, h .inside)
+wrapping-add-usize-requires : tie.Need-wrapping-add-usize-requires
+wrapping-add-usize-requires c κs = search needs
 
 units-of-requires : tie.Need-units-of-requires
 units-of-requires c κs = search needs
 
-add-t7 : tie.Need-add-t7
-add-t7 c = let h = heard (c .before .before .before) in omega (arith, h .inside, h .units, c .before .units-of .ensures)
+wrapping-add-usize-requires-2 : tie.Need-wrapping-add-usize-requires-2
+wrapping-add-usize-requires-2 c κs = search needs
 
-add-t8 : tie.Need-add-t8
-add-t8 c = search needs
+wrapping-add-usize-requires-3 : tie.Need-wrapping-add-usize-requires-3
+wrapping-add-usize-requires-3 c κs = search needs
 
 shared-slice-read-lines-of : tie.Need-shared-slice-read-lines-of
 shared-slice-read-lines-of c = search needs
@@ -37,27 +33,36 @@ shared-slice-read-lines-of c = search needs
 lines-of-requires : tie.Need-lines-of-requires
 lines-of-requires c κs = search needs
 
-add-t12 : tie.Need-add-t12
-add-t12 c =
-    let h = heard (c .before .before .before .before .before .before .before) in
-    omega (arith, h .inside, h .lines, c .before .lines-of .ensures)
+wrapping-add-usize-requires-4 : tie.Need-wrapping-add-usize-requires-4
+wrapping-add-usize-requires-4 c κs = search needs
 
-returns : tie.Need-returns
-returns c =
-    let u = c .before .before .before .before .before in
-    rw (c .before .lines-of .ensures, u .units-of .ensures) (heard (u .before .before) .place-is)
+returns-2 : tie.Need-returns-2
+returns-2 c =
+    let l = c .before in
+    let k = l .before .before in
+    let v = k .before in
+    let u = v .before in
+    let b = u .before in
+    let s = b .before in
+    let g = s .before in
+    let e = g .before in
+    let a = e .before .before .args in
+    let h = added (a .p) (a .rest .now) (omega (arith, e .if1 .left)) (g .segment .result) (g .segment .ensures) in
+    rw (b .wrapping-add-usize .ensures, v .wrapping-add-usize2 .ensures, u .units-of .ensures)
+    (rw (k .wrapping-add-usize3 .ensures, c .wrapping-add-usize4 .ensures, l .lines-of .ensures) (h (s .size .result) (s .size .ensures)))
 
 pub step-spec : {M : Type 1} → statement M
 step-spec =
     tie.close
     (tie.spec
+    returns
     segment-requires
     size-requires
-    add-t5
+    wrapping-add-usize-requires
     units-of-requires
-    add-t7
-    add-t8
+    wrapping-add-usize-requires-2
+    wrapping-add-usize-requires-3
     shared-slice-read-lines-of
     lines-of-requires
-    add-t12
-    returns)
+    wrapping-add-usize-requires-4
+    returns-2)

@@ -1,7 +1,7 @@
 -- The bytes kept are told.
 -- Assumes nothing.
 use mathlib.Core.Path.{ap, _∙_}
-use Rattle.telling.specs.States.{three}
+use Rattle.answers.specs.Answers.{three}
 use Rattle.telling.proofs.Wrapping.{as-said}
 use borrow.Author.Needs.{needs}
 use Rattle.outside.proofs.holding.outside_pending_hold.Statement.{statement}

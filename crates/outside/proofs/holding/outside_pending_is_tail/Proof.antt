@@ -7,7 +7,7 @@ use borrow.Author.Tests.{not-true, not-false}
 use mathlib.Core.List.{List}
 use Rattle.terms.specs.Told.{bit}
 use Rattle.pending.specs.Tail.{isTail}
-use Rattle.telling.specs.States.{isState}
+use Rattle.states.specs.States.{isState}
 use borrow.Author.Needs.{needs}
 use Rattle.outside.proofs.holding.outside_pending_is_tail.Statement.{statement}
 use Rattle.outside.proofs.holding.outside_pending_is_tail.Tie as tie

@@ -1,0 +1,2 @@
+pub mod Checkpoints
+pub mod Choosing

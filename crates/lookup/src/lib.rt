@@ -1,0 +1,85 @@
+// Plain lookup: the place that an offset counts, from the start of a text or from a place on.
+use place::Bytes;
+use place::Lines;
+use place::Offset;
+use place::Place;
+use place::Placed;
+use place::Points;
+use place::Units;
+use terms::Decoder;
+use terms::Refusal;
+ghost use mathlib.Core.Path.{_≡_};
+ghost use Rattle.place.specs.Lookup.{placed, lookupSays};
+ghost use Rattle.place.specs.Walk.{number, measure, Roomy, walkSays, resumeSays};
+
+// Plain lookup from a place on; the text is given from there.
+fn walk(text: &[u8], from: Place, to: Offset) -> Placed
+    requires { ⌜ Roomy from (now text) ⌝ }
+    ensures { λ r. ⌜ placed r ≡ walkSays (measure to) (number to) from (now (text .entry)) ⌝ }
+{
+    let offset = to.number();
+    let mut p = from;
+    let mut at: usize = 0;
+    loop {
+        let count = to.count(p);
+        if count == offset {
+            return Placed::At(p);
+        }
+        if offset < count {
+            return Placed::Refused(Refusal::Inside);
+        }
+        if at == text.len() {
+            return Placed::Refused(Refusal::PastEnd);
+        }
+        p = place::step(p, &text[at..]);
+        at = p.bytes - from.bytes;
+    }
+}
+
+// Plain lookup: refusal 2, then the walk from the start.
+fn from_start(text: &[u8], to: Offset) -> Placed
+    ensures { λ r. ⌜ placed r ≡ lookupSays (measure to) (number to) (now (text .entry)) ⌝ }
+{
+    if Decoder::LIMIT < text.len() {
+        return Placed::Refused(Refusal::OverLimit);
+    }
+    walk(text, Place::start(), to)
+}
+
+// Plain lookup from any place on, where the text is given from there: refusal 2 and 8 before the walk.
+pub fn resume(text: &[u8], from: Place, to: Offset) -> Placed
+    ensures { λ r. ⌜ placed r ≡ resumeSays (measure to) (number to) from (now (text .entry)) ⌝ }
+{
+    if from.over(text.len()) {
+        return Placed::Refused(Refusal::OverLimit);
+    }
+    if !from.fair() {
+        return Placed::Refused(Refusal::BadState);
+    }
+    walk(text, from, to)
+}
+
+// The place that counts so many bytes, units, code points or lines.
+pub fn at_byte(text: &[u8], offset: Bytes) -> Placed
+    ensures { λ r. ⌜ placed r ≡ lookupSays (λ p. p .bytes) (offset .0) (now (text .entry)) ⌝ }
+{
+    from_start(text, Offset::Byte(offset))
+}
+
+pub fn at_unit(text: &[u8], offset: Units) -> Placed
+    ensures { λ r. ⌜ placed r ≡ lookupSays (λ p. p .units) (offset .0) (now (text .entry)) ⌝ }
+{
+    from_start(text, Offset::Unit(offset))
+}
+
+pub fn at_point(text: &[u8], offset: Points) -> Placed
+    ensures { λ r. ⌜ placed r ≡ lookupSays (λ p. p .points) (offset .0) (now (text .entry)) ⌝ }
+{
+    from_start(text, Offset::Point(offset))
+}
+
+pub fn at_line(text: &[u8], offset: Lines) -> Placed
+    ensures { λ r. ⌜ placed r ≡ lookupSays (λ p. p .lines) (offset .0) (now (text .entry)) ⌝ }
+{
+    from_start(text, Offset::Line(offset))
+}

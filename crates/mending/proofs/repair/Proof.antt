@@ -1,0 +1,96 @@
+-- Refusal 2, then 3, then the form is written; where the output has three places for each byte there is room without counting.
+-- Assumes nothing.
+use native.Mathlib.Omega.{arith}
+use Rattle.terms.specs.Form.{repaired}
+use Rattle.terms.proofs.Answering.{repair-over, repair-short, repair-done}
+use Rattle.terms.proofs.Converting.{repaired-converted}
+use Rattle.utf8.specs.Scalar.{utf8}
+use Rattle.utf8.proofs.Scalars.{utf8-faithful}
+use Rattle.mending.proofs.Answering.{repair-roomed}
+use Rattle.mending.proofs.Running.{whole-same, bytes-few}
+use borrow.Author.Needs.{needs}
+use Rattle.mending.proofs.repair.Statement.{statement}
+use Rattle.mending.proofs.repair.Tie as tie
+
+returns : tie.Need-returns
+returns c = let a = c .before .before .before .args in repair-over (a .text .now) (repaired utf8 (a .text .now)) (a .out .now) (c .if1 .taken)
+
+write-bytes-requires : tie.Need-write-bytes-requires
+write-bytes-requires c κs =
+    let t = c .before in
+    omega (arith, bytes-few (t .before .before .before .before .args .text .now), t .if2 .taken)
+
+same-length : tie.Need-same-length
+same-length c = search needs
+
+returns-2 : tie.Need-returns-2
+returns-2 c =
+    let w = c .before .before in
+    let t = w .before .before in
+    let e = t .before in
+    let a = e .before .before .before .args in
+    repair-done (a .text .now) (repaired utf8 (a .text .now)) (a .out .now) (e .if1 .left) _ _ (rw (repaired-converted utf8-faithful (a .text .now)) (omega (arith, bytes-few (a .text .now), t .if2 .taken)))
+    (rw (repaired-converted utf8-faithful (a .text .now)) (w .write-bytes .ensures .count)) (rw (repaired-converted utf8-faithful (a .text .now)) (w .write-bytes .ensures .output))
+
+whole-run-requires : tie.Need-whole-run-requires
+whole-run-requires c κs = search needs
+
+repair-whole-requires : tie.Need-repair-whole-requires
+repair-whole-requires c κs = search needs
+
+same-length-2 : tie.Need-same-length-2
+same-length-2 c = search needs
+
+returns-3 : tie.Need-returns-3
+returns-3 c =
+    let w = c .before .before in
+    let t = w .before .before in
+    let h = t .before in
+    let e = h .before .before in
+    let a = e .before .before .before .args in
+    rw (whole-same (a .text .now) (h .whole-run .result) (h .whole-run .ensures) (t .if3 .taken))
+    (repair-roomed (a .text .now) (a .text .now) (a .out .now) (w .repair-whole .last .1 .0) (w .repair-whole .result) (e .if1 .left) (w .repair-whole .ensures))
+
+need-bytes-requires : tie.Need-need-bytes-requires
+need-bytes-requires c κs = search needs
+
+returns-4 : tie.Need-returns-4
+returns-4 c =
+    let n = c .before in
+    let e = n .before .before .before .before in
+    let a = e .before .before .before .args in
+    repair-short (a .text .now) (repaired utf8 (a .text .now)) (a .out .now) (e .if1 .left) (n .need-bytes .result)
+    (rw (repaired-converted utf8-faithful (a .text .now)) (n .need-bytes .ensures)) (c .if4 .taken)
+
+write-bytes-requires-2 : tie.Need-write-bytes-requires-2
+write-bytes-requires-2 c κs = search needs
+
+same-length-3 : tie.Need-same-length-3
+same-length-3 c = search needs
+
+returns-5 : tie.Need-returns-5
+returns-5 c =
+    let w = c .before .before in
+    let n = w .before .before .before in
+    let e = n .before .before .before .before in
+    let a = e .before .before .before .args in
+    repair-done (a .text .now) (repaired utf8 (a .text .now)) (a .out .now) (e .if1 .left) _ _ (rw (repaired-converted utf8-faithful (a .text .now)) (omega (arith, n .need-bytes .ensures, w .before .before .if4 .left)))
+    (rw (repaired-converted utf8-faithful (a .text .now)) (w .write-bytes2 .ensures .count)) (rw (repaired-converted utf8-faithful (a .text .now)) (w .write-bytes2 .ensures .output))
+
+pub repair-spec : {M : Type 1} → statement M
+repair-spec =
+    tie.close
+    (tie.spec
+    returns
+    write-bytes-requires
+    same-length
+    returns-2
+    whole-run-requires
+    repair-whole-requires
+    same-length-2
+    returns-3
+    need-bytes-requires
+    returns-4
+    write-bytes-requires-2
+    same-length-3
+    returns-5)
