@@ -1,5 +1,5 @@
 // What the library's calls answer, as numbers: what is said of each answer.
-use build::Building;
+use builder::Building;
 use pending::Seam;
 use place::Placed;
 use repair::Begun;
@@ -15,7 +15,7 @@ ghost use mathlib.Core.List.{[], _∷_};
 ghost use Rattle.terms.specs.Told.{refusal, first, checked, written, bit};
 ghost use Rattle.repair.specs.Feeding.{begun, total};
 ghost use Rattle.place.specs.Lookup.{placed};
-ghost use Rattle.build.specs.Building.{building};
+ghost use Rattle.builder.specs.State.{building};
 ghost use Rattle.telling.specs.Telling.{Says};
 ghost use Rattle.answers.specs.Answers.{three, seamNumbers};
 

@@ -23,8 +23,10 @@ use Rattle.place.specs.Measures.{ruler}
 use Rattle.place.specs.Lookup.{counts}
 use Rattle.place.specs.declared.Place.{Place}
 use Rattle.place.proofs.Measuring.{measured}
-use Rattle.build.specs.Runs.{summed, StepsBack}
-use Rattle.build.proofs.Summing.{summed-append, summed-same, summed-is, parts-whole}
+use Rattle.counts.specs.Summed.{summed}
+use Rattle.counts.proofs.Summing.{summed-append, summed-same}
+use Rattle.counts.proofs.Backing.{StepsBack}
+use Rattle.build.proofs.Summing.{summed-is, parts-whole}
 
 module _ (text : List ℕ) (w : AllWhole (cut bytes text)) where
   pub whole-first : (n : ℕ) → AllWhole (cut bytes (drop n text)) → n < length text → later (getD text n 0) ≡ false

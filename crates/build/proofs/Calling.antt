@@ -30,12 +30,14 @@ use Rattle.place.specs.Lookup.{counts}
 use Rattle.place.specs.declared.Place.{Place}
 use Rattle.place.proofs.Measuring.{measured, Ordered, ordered}
 use Rattle.checkpoints.specs.Checkpoints.{spacing, needed, indexOf}
-use Rattle.build.specs.Building.{freshBuilder, left, settled, sound, building, opened, fed, ended, closed, buildSays, Feeds, Finishes}
+use Rattle.builder.specs.State.{freshBuilder, left, settled, sound, building, buildSays}
+use Rattle.builder.specs.declared.Builder.{Builder}
+use Rattle.builder.specs.declared.Built as the-built
+use Rattle.builder.proofs.Testing.{is-sound}
+use Rattle.builder.proofs.Checking.{says-done}
+use Rattle.build.specs.Building.{opened, fed, ended, closed, Feeds, Finishes}
 use Rattle.build.specs.Course.{Course, started, called, course, Holds, Ends}
-use Rattle.build.specs.declared.Builder.{Builder}
-use Rattle.build.specs.declared.Built as the-built
-use Rattle.build.proofs.Testing.{is-sound}
-use Rattle.build.proofs.Granting.{says-granted, says-done}
+use Rattle.build.proofs.Granting.{says-granted}
 
 spaced : 0 < spacing
 spaced = omega arith

@@ -1,38 +1,24 @@
 -- What a call answers, and what it leaves where it is granted and where it is refused.
 -- Assumes nothing.
 use mathlib.Core.Path.{_≡_, sym, ap}
-use Prim.Native.Nat.{ℕ, _+_, _≤_, _<_}
-use mathlib.Core.Bool.{true, false, true≢false}
+use Prim.Native.Nat.{ℕ, _+_}
+use mathlib.Core.Bool.{true, true≢false}
 use mathlib.Core.List.{List, [], _∷_}
 use lib.ListN.{length, getD}
 use lib.Dec.{ltb, eqb}
-use borrow.Author.Tests.{ltb-false, lt-ltb, le-ltb}
+use borrow.Author.Tests.{ltb-false}
 use Rattle.division.proofs.Cases.{split}
 use Rattle.terms.specs.Limits.{limit}
 use Rattle.terms.specs.Told.{refusal}
 use Rattle.terms.specs.declared.Refusal.{Refusal}
 use Rattle.terms.proofs.Telling.{no-zero}
 use Rattle.checkpoints.specs.Checkpoints.{needed}
-use Rattle.build.specs.Building.{freshBuilder, sound, buildSays, ended, Feeds, Finishes}
+use Rattle.builder.specs.State.{freshBuilder, sound, buildSays}
+use Rattle.builder.specs.declared.Builder.{Builder}
+use Rattle.builder.specs.declared.Building.the-variants.{Done, Refused}
+use Rattle.builder.proofs.Checking.{says-done}
+use Rattle.build.specs.Building.{ended, Feeds, Finishes}
 use Rattle.build.specs.Steps.{Granted, grown}
-use Rattle.build.specs.declared.Builder.{Builder}
-use Rattle.build.specs.declared.Building.the-variants.{Done, Refused}
-
--- ---- the checks in their order
-
-module _ (b : Builder) (more room : ℕ) where
-  pub says-unsound : sound b ≡ false → 8 ∷ [] ≡ buildSays b more room
-  says-unsound s = rw s
-
-  module _ (s : sound b ≡ true) where
-    pub says-over : limit < b .taken + more → 2 ∷ [] ≡ buildSays b more room
-    says-over o = rw (s, lt-ltb limit (b .taken + more) o)
-
-    pub says-short : b .taken + more ≤ limit → (n : ℕ) → n ≡ needed (b .taken + more) → room < n → 3 ∷ n ∷ [] ≡ buildSays b more room
-    says-short w n e h = rw (s, le-ltb limit (b .taken + more) w, ← e, lt-ltb room n h)
-
-    pub says-done : b .taken + more ≤ limit → needed (b .taken + more) ≤ room → 0 ∷ [] ≡ buildSays b more room
-    says-done w h = rw (s, le-ltb limit (b .taken + more) w, le-ltb room (needed (b .taken + more)) h)
 
 -- ---- a call that is granted has passed them all
 

@@ -22,10 +22,11 @@ use Rattle.place.specs.Measures.{ruler}
 use Rattle.place.specs.Lookup.{counts}
 use Rattle.place.specs.declared.Place.{Place}
 use Rattle.checkpoints.specs.Checkpoints.{spacing}
-use Rattle.build.specs.Building.{left, settled, closed, ended}
+use Rattle.builder.specs.State.{left, settled}
+use Rattle.builder.specs.declared.Builder.{Builder}
+use Rattle.builder.proofs.Testing.{Sound, sound-is}
+use Rattle.build.specs.Building.{closed, ended}
 use Rattle.build.specs.Steps.{Fits, marked, behind, Ahead, Advances, builtOf, streamOf, joined, Walks, keeping, Closes, Granted, Seams}
-use Rattle.build.specs.declared.Builder.{Builder}
-use Rattle.build.proofs.Testing.{Sound, sound-is}
 use Rattle.build.proofs.Marking.{behind-fits, add-first}
 use Rattle.build.proofs.Walking.{streamed, settled-few, settled-add}
 

@@ -1,40 +1,54 @@
 -- One segment: the place behind it, and the checkpoint that it passes.
 -- Assumes nothing.
-use mathlib.Core.Path.{_≡_, ap}
-use Prim.Native.Nat.{ℕ, suc, _+_, _-_, _*_, _/_, _≤_, _<_}
+use mathlib.Core.Path.{_≡_, ap, _∙_}
+use Prim.Native.Nat.{ℕ, _+_, _-_, _*_, _/_, _%_, _^_, _≤_, _<_}
 use mathlib.Core.List.{List}
-use lib.ListN.{set}
+use lib.ListN.{length}
 use lib.Seq.{sets}
 use lib.Dec.{eqb}
-use borrow.Author.Tests.{eqb-true, le-leb, lt-leb}
+use borrow.Author.Tests.{eqb-true, eqb-false, le-leb, lt-leb, lt-ltb, le-ltb}
 use native.Mathlib.Omega.{arith}
 use Rattle.division.specs.Reader.{first}
 use Rattle.division.specs.Index.{marks, add}
 use Rattle.division.specs.Tally.{size}
-use Rattle.division.proofs.Cases.{split}
+use Rattle.division.proofs.Cases.{split, under}
 use Rattle.utf8.specs.Bytes.{bytes}
 use Rattle.place.specs.Measures.{ruler}
 use Rattle.place.specs.Walk.{unitsBySize, linesByHead}
 use Rattle.place.specs.Lookup.{counts}
 use Rattle.place.specs.declared.Place.{Place}
 use Rattle.place.proofs.Measuring.{units-by-size}
-use Rattle.checkpoints.specs.Checkpoints.{spacing}
-use Rattle.build.specs.Steps.{Fits, marked, Between, behind, Ahead, builtOf}
+use Rattle.checkpoints.specs.Checkpoints.{spacing, needed}
+use Rattle.marking.specs.Marks.{markedAt, markedOnce}
+use Rattle.build.specs.Steps.{Fits, marked, behind, Ahead, builtOf}
 
--- ---- four numbers
+-- ---- one checkpoint
 
-pub four-written : (row : List ℕ) (k : ℕ) (p : Place)
-    → set (set (set (set row (4 * k) (p .bytes)) (4 * k + 1) (p .units)) (4 * k + 2) (p .points)) (4 * k + 3) (p .lines) ≡ sets row (4 * k) (counts p)
-four-written row k p =
-    let a : 4 * k + 1 ≡ suc (4 * k) = omega arith in
-    let b : 4 * k + 2 ≡ suc (suc (4 * k)) = omega arith in
-    let c : 4 * k + 3 ≡ suc (suc (suc (4 * k))) = omega arith in
-    rw (a, b, c)
+-- checkpoint k has its place in the row
+pub record Holds (p : Place) (k : ℕ) (row : List ℕ) : Type 0 where
+  pub fits : Fits p
+  pub room : 4 * k + 4 ≤ length row
+
+pub held-marked : (p : Place) (k : ℕ) (row : List ℕ) → Holds p k row → markedAt row k p ≡ sets row (4 * k) (counts p)
+held-marked p k row h =
+    let f = h .fits in
+    let b : p .bytes % 2 ^ 32 ≡ p .bytes = omega (arith, f .within) in
+    let u : p .units % 2 ^ 32 ≡ p .units = omega (arith, f .units, f .within) in
+    let c : p .points % 2 ^ 32 ≡ p .points = omega (arith, f .points, f .units, f .within) in
+    let l : p .lines % 2 ^ 32 ≡ p .lines = omega (arith, f .lines, f .points, f .units, f .within) in
+    rw (lt-ltb k (length row / 4) (omega (arith, h .room)), b, u, c, l)
 
 -- ---- the checkpoint between two places: there is none, or the second place lies at it, or it lies behind it
 
+pub record Between (p q : Place) (row : List ℕ) : Type 0 where
+  pub old : Fits p
+  pub new : Fits q
+  pub order : p .bytes ≤ q .bytes
+  pub near : q .bytes ≤ p .bytes + spacing
+  pub room : needed (q .bytes) ≤ length row
+
 module _ (p q : Place) (row : List ℕ) (h : Between p q row) where
-  pub mark-none : q .bytes < spacing * (p .bytes / spacing + 1) → row ≡ marked row p q
+  mark-none : q .bytes < spacing * (p .bytes / spacing + 1) → row ≡ marked row p q
   mark-none l =
       let z : marks spacing (q .bytes) - marks spacing (p .bytes) ≡ 0 = omega (arith, h .order) in
       rw z
@@ -42,17 +56,32 @@ module _ (p q : Place) (row : List ℕ) (h : Between p q row) where
   one : spacing * (p .bytes / spacing + 1) ≤ q .bytes → marks spacing (q .bytes) - marks spacing (p .bytes) ≡ 1
   one l = omega (arith, h .near)
 
-  pub mark-at : q .bytes ≡ spacing * (p .bytes / spacing + 1) → sets row (4 * (p .bytes / spacing + 1)) (counts q) ≡ marked row p q
+  mark-at : q .bytes ≡ spacing * (p .bytes / spacing + 1) → sets row (4 * (p .bytes / spacing + 1)) (counts q) ≡ marked row p q
   mark-at e =
       let l : q .bytes ≤ spacing * marks spacing (p .bytes) = omega arith in
       let s : p .bytes / spacing + 1 ≡ marks spacing (p .bytes) = omega arith in
       rw (one (omega arith), le-leb (q .bytes) (spacing * marks spacing (p .bytes)) l, s)
 
-  pub mark-over : spacing * (p .bytes / spacing + 1) < q .bytes → sets row (4 * (p .bytes / spacing + 1)) (counts p) ≡ marked row p q
+  mark-over : spacing * (p .bytes / spacing + 1) < q .bytes → sets row (4 * (p .bytes / spacing + 1)) (counts p) ≡ marked row p q
   mark-over o =
       let l : spacing * marks spacing (p .bytes) < q .bytes = omega arith in
       let s : p .bytes / spacing + 1 ≡ marks spacing (p .bytes) = omega arith in
       rw (one (omega arith), lt-leb (q .bytes) (spacing * marks spacing (p .bytes)) l, s)
+
+  pub between-marked : markedOnce row p q ≡ marked row p q
+  between-marked =
+      let k : ℕ = p .bytes / spacing + 1 in
+      under (q .bytes / spacing) k
+      (λ i. rw (lt-ltb (q .bytes / spacing) k i) (mark-none (omega arith)))
+      (λ i.
+      let r : 4 * k + 4 ≤ length row = omega (arith, h .room) in
+      split (eqb (q .bytes) (spacing * k))
+      (λ e.
+      rw (le-ltb (q .bytes / spacing) k i, e)
+      (held-marked q k row (record { fits = h .new; room = r }) ∙ mark-at (eqb-true (q .bytes) (spacing * k) e)))
+      (λ e.
+      rw (le-ltb (q .bytes / spacing) k i, e)
+      (held-marked p k row (record { fits = h .old; room = r }) ∙ mark-over (omega (arith, eqb-false (q .bytes) (spacing * k) e)))))
 
 -- ---- the place behind a segment
 

@@ -23,12 +23,18 @@ use Rattle.sums.specs.Counts.{startOf, fourOf, endOf}
 use Rattle.sums.proofs.Counting.{start-few, four-few, end-few, total-few}
 use Rattle.place.specs.Measures.{ruler}
 use Rattle.place.specs.Lookup.{counts}
+use Rattle.place.specs.Walk.{wrapped}
 use Rattle.place.specs.declared.Place.{Place}
 use Rattle.place.proofs.Measuring.{measured}
 use Rattle.checkpoints.specs.Checkpoints.{spacing}
-use Rattle.build.specs.Steps.{Holds, builtOf, Walked}
-use Rattle.build.specs.Runs.{summed, Roomy, Covers, StepsBack, Runs}
-use Rattle.build.proofs.Summing.{summed-none, summed-append, summed-is, summed-fits, parts-whole}
+use Rattle.counts.specs.Summed.{summed, back}
+use Rattle.counts.proofs.Summing.{Roomy, summed-plain, summed-none, summed-append}
+use Rattle.counts.proofs.Backing.{Covers, StepsBack, steps-back}
+use Rattle.marking.specs.Marks.{markedAt}
+use Rattle.build.specs.Steps.{builtOf, Walked}
+use Rattle.build.specs.Runs.{Runs}
+use Rattle.build.proofs.Marking.{Holds, held-marked}
+use Rattle.build.proofs.Summing.{summed-is, summed-fits, parts-whole}
 use Rattle.build.proofs.Bounding.{whole-first, whole-parted, back-inside, back-last, back-place}
 
 -- checkpoint k, and n of them from k on
@@ -86,15 +92,14 @@ module _ (text : List ℕ) (from : Place) (row₀ : List ℕ) (r : Runs from tex
             lines = omega (arith, part-long, r .walks .within, f .units, f .points, f .lines);
           }
 
-      summed-on : summed q (take m (drop at text)) ≡ summed from (take (at + m) text)
-      summed-on = rw (d .place-is, take-add at m text) (summed-append from (take at text) (take m (drop at text)))
-
-    pub passed-roomy : (n : ℕ) → at ≤ n → n ≤ length text → Roomy q (take (n - at) (drop at text))
-    passed-roomy n l h = roomy (n - at) (omega arith)
+      summed-on : wrapped (summed q (take m (drop at text))) ≡ summed from (take (at + m) text)
+      summed-on =
+          summed-plain q (take m (drop at text)) roomy
+          ∙ rw (d .place-is, take-add at m text) (summed-append from (take at text) (take m (drop at text)))
 
     -- as far as the next checkpoint
     module _ (h : at + (spacing - q .bytes % spacing) ≤ length text) (v : Place)
-        (t : v ≡ summed q (take (at + (spacing - q .bytes % spacing) - at) (drop at text))) where
+        (t : v ≡ wrapped (summed q (take (at + (spacing - q .bytes % spacing) - at) (drop at text)))) where
       abbrev end : ℕ
       end = at + (spacing - q .bytes % spacing)
 
@@ -106,7 +111,7 @@ module _ (text : List ℕ) (from : Place) (row₀ : List ℕ) (r : Runs from tex
       there-bytes : v .bytes ≡ from .bytes + end
       there-bytes = ap (λ (p : Place). p .bytes) there-is ∙ rw (length-take-le end text h)
 
-      pub passed-covers : Covers v text end
+      passed-covers : Covers v text end
       passed-covers = rw there-is (record {
         inside = h;
         first = λ l. whole-first text wholes 0 wholes l;
@@ -116,16 +121,19 @@ module _ (text : List ℕ) (from : Place) (row₀ : List ℕ) (r : Runs from tex
         lines = omega arith;
       })
 
-      module _ {p : Place} (s : StepsBack text end v p) where
-        pub passed-holds : Holds p (v .bytes / spacing) row
+      module _ {p : Place} (b : p ≡ back text end v) where
+        stepped : StepsBack text end v p
+        stepped = rw b (steps-back text end v passed-covers)
+
+        passed-holds : Holds p (v .bytes / spacing) row
         passed-holds = record {
-          fits = rw (back-place text wholes end h s from there-is)
-              (summed-fits from (take (s .start) text) (whole-parted text wholes (s .start) (back-inside text wholes end h s) (s .edge) .front) (r .walks .fits)
-              (omega (arith, length-take-le (s .start) text (back-inside text wholes end h s), back-inside text wholes end h s, r .walks .within)));
+          fits = rw (back-place text wholes end h stepped from there-is)
+              (summed-fits from (take (stepped .start) text) (whole-parted text wholes (stepped .start) (back-inside text wholes end h stepped) (stepped .edge) .front) (r .walks .fits)
+              (omega (arith, length-take-le (stepped .start) text (back-inside text wholes end h stepped), back-inside text wholes end h stepped, r .walks .within)));
           room = omega (arith, passed-long, there-bytes, h, r .walks .room);
         }
 
-        pub passed-next : {row′ : List ℕ} → row′ ≡ sets row (4 * (v .bytes / spacing)) (counts p) → Passed text from row₀ row′ v end
+        pub passed-next : {row′ : List ℕ} → row′ ≡ markedAt row (v .bytes / spacing) p → Passed text from row₀ row′ v end
         passed-next {row′} e =
             let old : ℕ = marks spacing (from .bytes) in
             let n : ℕ = marks spacing (q .bytes) - old in
@@ -134,7 +142,7 @@ module _ (text : List ℕ) (from : Place) (row₀ : List ℕ) (r : Runs from tex
             let k : old + n ≡ j = omega (arith, there-bytes, d .bytes-are) in
             let i : 4 * old + length (checkpoints from text old n) ≡ 4 * j = omega (arith, checkpoints-long from text old n) in
             let c : from .bytes + end ≡ spacing * j = omega (arith, there-bytes, d .bytes-are) in
-            let g : p ≡ checkpoint from text j = back-place text wholes end h s from there-is ∙ sym (rw c at (back-last text wholes end h s from)) in
+            let g : p ≡ checkpoint from text j = back-place text wholes end h stepped from there-is ∙ sym (rw c at (back-last text wholes end h stepped from)) in
             let l : sets row₀ (4 * old) (checkpoints from text old (n + 1))
             ≡ sets (sets row₀ (4 * old) (checkpoints from text old n)) (4 * old + length (checkpoints from text old n))
             (counts (checkpoint from text (old + n)))
@@ -143,17 +151,17 @@ module _ (text : List ℕ) (from : Place) (row₀ : List ℕ) (r : Runs from tex
               inside = h;
               place-is = there-is;
               bytes-are = there-bytes;
-              row-is = e ∙ sym (rw a (l ∙ rw (i, k, ← g, ← d .row-is)));
+              row-is = e ∙ held-marked p j row passed-holds ∙ sym (rw a (l ∙ rw (i, k, ← g, ← d .row-is)));
             }
 
     -- and to the end
-    pub passed-end : length text < at + (spacing - q .bytes % spacing) → (v : Place) → v ≡ summed q (drop at text)
+    pub passed-end : length text < at + (spacing - q .bytes % spacing) → (v : Place) → v ≡ wrapped (summed q (drop at text))
         → Walked text from row₀ row v (length text)
     passed-end h v e =
         let m : ℕ = length text - at in
         let t : take m (drop at text) ≡ drop at text = part-is text at in
         let k : at + m ≡ length text = omega (arith, d .inside) in
-        let s : v ≡ summed from text = e ∙ ap (summed q) (sym t) ∙ summed-on m (omega arith) ∙ rw (k, take-length text) in
+        let s : v ≡ summed from text = e ∙ ap (λ (l : List ℕ). wrapped (summed q l)) (sym t) ∙ summed-on m (omega arith) ∙ rw (k, take-length text) in
         let g : foldl (ruler .step) from (cut bytes text) ≡ v = summed-is from text wholes ∙ sym s in
         let b : v .bytes ≡ from .bytes + length text = ap (λ (p : Place). p .bytes) s in
         let n : marks spacing (v .bytes) ≡ marks spacing (q .bytes) = omega (arith, d .bytes-are) in

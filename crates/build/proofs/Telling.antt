@@ -1,28 +1,12 @@
--- What a call that builds tells loses nothing: two answers that its promise allows are equal, and they leave the same.
+-- Two answers that the promise of a call that builds allows are equal, and they leave the same.
 -- Assumes nothing.
-use mathlib.Core.Path.{_≡_, refl, sym, _∙_}
+use mathlib.Core.Path.{_≡_, sym, _∙_}
 use Prim.Native.Nat.{ℕ}
-use mathlib.Core.Bool.{cond}
 use mathlib.Core.List.{List}
-use lib.ListN.{getD}
-use lib.Dec.{eqb}
-use Rattle.terms.proofs.Telling.{by-back, backRefusal, refusal-back, no-zero}
-use Rattle.build.specs.Building.{building, Feeds, Finishes}
-use Rattle.build.specs.declared.Builder.{Builder}
-use Rattle.build.specs.declared.Building.{Building}
-use Rattle.build.specs.declared.Building.the-variants.{Done, Refused}
-use Rattle.build.specs.declared.Built as the-built
-
-back : List ℕ → Building
-back l = cond (eqb (getD l 0 0) 0) Done (Refused (backRefusal l))
-
-building-back : (a : Building) → back (building a) ≡ a
-unfolding back
-building-back Done = refl
-building-back (Refused r) = rw (no-zero r, refusal-back r)
-
-pub told-building : (a b : Building) → building a ≡ building b → a ≡ b
-told-building = by-back building back building-back
+use Rattle.builder.specs.declared.Builder.{Builder}
+use Rattle.builder.specs.declared.Built as the-built
+use Rattle.builder.proofs.Telling.{told-building}
+use Rattle.build.specs.Building.{Feeds, Finishes}
 
 pub feeds-once : {b : Builder} {piece row row′ row″ : List ℕ} {q r : the-built.Built} → Feeds b piece row row′ q → Feeds b piece row row″ r
     → (q ≡ r) × (row′ ≡ row″)

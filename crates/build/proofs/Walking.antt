@@ -19,10 +19,10 @@ use Rattle.place.specs.Measures.{ruler}
 use Rattle.place.specs.Lookup.{counts}
 use Rattle.place.specs.declared.Place.{Place}
 use Rattle.checkpoints.specs.Checkpoints.{spacing}
+use Rattle.builder.specs.declared.Builder.{Builder}
 use Rattle.build.specs.Building.{closed}
 use Rattle.build.specs.Steps.{marked, behind, Ahead, Advances, builtOf, streamOf, Walks, Walked, keeping, Closes, Stretched}
 use Rattle.build.proofs.Marking.{behind-fits, add-first}
-use Rattle.build.specs.declared.Builder.{Builder}
 
 -- what parts of a text leave behind
 abbrev pub streamed : Built Place → Parts Kind → State (Built Place)

@@ -1,54 +1,22 @@
--- The builder: its tests, and what a feed and finish answer, hand back and write.
+-- The builder: what a feed and finish answer, hand back and write.
 -- Assumes nothing.
 use mathlib.Core.Path.{_≡_}
-use Prim.Native.Nat.{ℕ, _+_, _-_}
-use mathlib.Core.Bool.{Bool, cond, _&&_}
-use mathlib.Core.List.{List, [], _∷_}
-use lib.ListN.{length, take, drop}
-use lib.Dec.{leb, ltb}
-use Rattle.division.specs.Reader.{pending}
+use Prim.Native.Nat.{ℕ, _+_}
+use mathlib.Core.List.{List}
+use lib.ListN.{length}
 use Rattle.division.specs.Stream.{State}
 use Rattle.division.specs.Stream as stream
 use Rattle.division.specs.Index.{Built, add, begun}
-use Rattle.terms.specs.Limits.{limit}
-use Rattle.terms.specs.Told.{refusal, ifGranted}
+use Rattle.terms.specs.Told.{ifGranted}
 use Rattle.utf8.specs.Bytes.{bytes}
-use Rattle.utf8.specs.Pending.{zeros, padded}
-use Rattle.place.specs.Measures.{place, ruler}
+use Rattle.utf8.specs.Pending.{padded}
+use Rattle.place.specs.Measures.{ruler}
 use Rattle.place.specs.Lookup.{counts}
 use Rattle.place.specs.declared.Place.{Place}
-use Rattle.checkpoints.specs.Checkpoints.{spacing, needed}
-use Rattle.build.specs.declared.Builder.{Builder}
-use Rattle.build.specs.declared.Building.{Building}
-use Rattle.build.specs.declared.Building.the-variants.{Done, Refused}
-use Rattle.build.specs.declared.Built as the-built
-
-abbrev pub freshBuilder : Builder
-freshBuilder = record { held = 0 ∷ 0 ∷ 0 ∷ []; pending = 0; taken = 0; units = 0; points = 0; lines = 0 }
-
--- the pending bytes, and the last settled place
-abbrev pub left : Builder → List ℕ
-left b = take (b .pending) (b .held)
-
-abbrev pub settled : Builder → Place
-settled b = place (b .taken - b .pending) (b .units) (b .points) (b .lines)
-
--- THE TESTS OF A STATE: at most 3 pending bytes, empty or a proper beginning of a well-formed sequence; unused ones 0; taken
--- within the limit; pending at most taken; lines ≤ code points ≤ units ≤ taken less pending
-abbrev pub sound : Builder → Bool
-sound b =
-    leb (b .pending) 3
-    && pending bytes (left b)
-    && zeros (drop (b .pending) (b .held))
-    && leb (b .taken) limit
-    && leb (b .pending) (b .taken)
-    && leb (b .lines) (b .points)
-    && leb (b .points) (b .units)
-    && leb (b .units) (b .taken - b .pending)
-
-abbrev pub building : Building → List ℕ
-building Done = 0 ∷ []
-building (Refused r) = refusal r
+use Rattle.checkpoints.specs.Checkpoints.{spacing}
+use Rattle.builder.specs.State.{freshBuilder, left, settled, building, buildSays}
+use Rattle.builder.specs.declared.Builder.{Builder}
+use Rattle.builder.specs.declared.Built as the-built
 
 -- the state as a stream's: checkpoint 0 is written by every call
 abbrev pub opened : Builder → List ℕ → State (Built Place)
@@ -69,16 +37,6 @@ closed taken s = record {
   points = s .kept .place .points;
   lines = s .kept .place .lines;
 }
-
--- ---- A CALL: refusal 8, 2, 3 in this order
-
-abbrev pub buildSays : Builder → ℕ → ℕ → List ℕ
-buildSays b more room =
-    cond (sound b)
-    (cond (ltb limit (b .taken + more)) (2 ∷ [])
-    (cond (ltb room (needed (b .taken + more))) (3 ∷ needed (b .taken + more) ∷ [])
-    (0 ∷ [])))
-    (8 ∷ [])
 
 pub record Feeds (b : Builder) (piece row row′ : List ℕ) (r : the-built.Built) : Type 0 where
   pub answer : building (r .answer) ≡ buildSays b (length piece) (length row)

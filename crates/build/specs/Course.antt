@@ -15,9 +15,10 @@ use Rattle.utf8.specs.Bytes.{bytes}
 use Rattle.place.specs.Measures.{ruler}
 use Rattle.place.specs.Lookup.{counts}
 use Rattle.checkpoints.specs.Checkpoints.{spacing, needed, indexOf}
-use Rattle.build.specs.Building.{freshBuilder, left, settled, sound, building, fed, closed, buildSays}
-use Rattle.build.specs.declared.Builder.{Builder}
-use Rattle.build.specs.declared.Built as the-built
+use Rattle.builder.specs.State.{freshBuilder, left, settled, sound, building, buildSays}
+use Rattle.builder.specs.declared.Builder.{Builder}
+use Rattle.builder.specs.declared.Built as the-built
+use Rattle.build.specs.Building.{fed, closed}
 
 -- so far: the state, the row that nobody else writes, and the pieces that were taken
 pub record Course : Type 0 where

@@ -19,8 +19,9 @@ use Rattle.place.specs.Walk.{unitsBySize, linesByHead}
 use Rattle.place.specs.Lookup.{counts}
 use Rattle.place.specs.declared.Place.{Place}
 use Rattle.checkpoints.specs.Checkpoints.{spacing, needed}
-use Rattle.build.specs.Building.{left, settled, sound, fed, closed}
-use Rattle.build.specs.declared.Builder.{Builder}
+use Rattle.builder.specs.State.{left, settled, sound}
+use Rattle.builder.specs.declared.Builder.{Builder}
+use Rattle.build.specs.Building.{fed, closed}
 
 -- ---- one checkpoint, and one segment
 
@@ -31,11 +32,6 @@ pub record Fits (p : Place) : Type 0 where
   pub units : p .units ≤ p .bytes
   pub within : p .bytes ≤ limit
 
--- checkpoint k has its place in the row
-pub record Holds (p : Place) (k : ℕ) (row : List ℕ) : Type 0 where
-  pub fits : Fits p
-  pub room : 4 * k + 4 ≤ length row
-
 -- the checkpoints above p and not above q, the next place behind it
 abbrev pub passed : Place → Place → List Place
 passed p q =
@@ -45,13 +41,6 @@ passed p q =
 
 abbrev pub marked : List ℕ → Place → Place → List ℕ
 marked row p q = sets row (4 * marks spacing (p .bytes)) (written counts (passed p q))
-
-pub record Between (p q : Place) (row : List ℕ) : Type 0 where
-  pub old : Fits p
-  pub new : Fits q
-  pub order : p .bytes ≤ q .bytes
-  pub near : q .bytes ≤ p .bytes + spacing
-  pub room : needed (q .bytes) ≤ length row
 
 -- the place behind a segment of so many bytes that begins with this one
 abbrev pub behind : Place → ℕ → ℕ → Place

@@ -1,147 +1,26 @@
 // The builder of an index from a byte text that comes in pieces.
+use builder::Builder;
+use builder::Building;
+use builder::Built;
 use place::Place;
-use terms::Decoder;
-use terms::Refusal;
 ghost use mathlib.Core.Path.{_≡_};
-ghost use Prim.Native.Nat.{_+_, _*_, _≤_, _<_};
-ghost use mathlib.Core.Bool.{false};
-ghost use lib.ListN.{length, getD};
-ghost use lib.Seq.{sets};
+ghost use Prim.Native.Nat.{_+_, _≤_, _<_};
+ghost use lib.ListN.{length};
 ghost use Rattle.division.specs.Index.{begun};
-ghost use Rattle.stands.specs.Stands.{later};
-ghost use Rattle.sums.specs.Counts.{fourOf};
 ghost use Rattle.place.specs.Measures.{ruler};
 ghost use Rattle.place.specs.Lookup.{counts};
 ghost use Rattle.checkpoints.specs.Checkpoints.{spacing};
-ghost use Rattle.build.specs.Building.{freshBuilder, settled, sound, building, buildSays, ended, Feeds, Finishes};
-ghost use Rattle.build.specs.Steps.{Holds, marked, Between, Ahead, Advances, keeping, Walks, Walked, Seams, Closes, Granted, streamOf, joined, grown};
+ghost use Rattle.build.specs.Building.{ended, Feeds, Finishes};
+ghost use Rattle.build.specs.Steps.{Ahead, Advances, keeping, Walks, Walked, Seams, Closes, Granted, streamOf, joined, grown};
 ghost use Rattle.build.specs.Steps.{Stretches, Stretched};
-ghost use Rattle.build.specs.Runs.{summed, Roomy, Bound, Covers, StepsBack, Runs};
-
-// What the builder keeps between two pieces.
-pub struct Builder {
-    // the pending bytes, unused ones 0, and how many there are
-    pub held: [u8; 3],
-    pub pending: usize,
-    // bytes taken, and the units, code points and lines at the last settled place
-    pub taken: usize,
-    pub units: usize,
-    pub points: usize,
-    pub lines: usize,
-}
-
-impl Builder {
-    // The state before the first piece.
-    pub fn fresh() -> Builder
-        ensures { λ r. ⌜ r ≡ freshBuilder ⌝ }
-    {
-        Builder {
-            held: [0, 0, 0],
-            pending: 0,
-            taken: 0,
-            units: 0,
-            points: 0,
-            lines: 0,
-        }
-    }
-}
-
-// The answer of a call that builds.
-pub enum Building {
-    Done,
-    Refused(Refusal),
-}
-
-// What a call that builds answers, and the state then.
-pub struct Built {
-    pub answer: Building,
-    pub state: Builder,
-}
-
-// The tests of a state. No sum is made that could wrap.
-fn is_sound(state: Builder) -> bool
-    ensures { λ r. ⌜ r ≡ sound state ⌝ }
-{
-    let held = state.held;
-    if !pending::is_tail(held, state.pending) {
-        return false;
-    }
-    if Decoder::LIMIT < state.taken {
-        return false;
-    }
-    if state.taken < state.pending {
-        return false;
-    }
-    if state.points < state.lines {
-        return false;
-    }
-    if state.units < state.points {
-        return false;
-    }
-    state.units <= state.taken - state.pending
-}
-
-// May a state take so many bytes more, with so many numbers in the row?
-fn check(state: Builder, more: usize, room: usize) -> Building
-    ensures { λ r. ⌜ building r ≡ buildSays state more room ⌝ }
-{
-    if !is_sound(state) {
-        return Building::Refused(Refusal::BadState);
-    }
-    if Decoder::LIMIT - state.taken < more {
-        return Building::Refused(Refusal::OverLimit);
-    }
-    let needed = 4 * ((state.taken + more) / checkpoints::SPACING + 1);
-    if room < needed {
-        return Building::Refused(Refusal::NoRoom { needed });
-    }
-    Building::Done
-}
-
-// Checkpoint k: the four counts of a place.
-fn mark(row: &mut [u32], k: usize, p: Place)
-    requires { ⌜ Holds p k (now row) ⌝ }
-    ensures { λ r. ⌜ now (row .exit) ≡ sets (now (row .entry)) (4 * k) (counts p) ⌝ }
-{
-    let at = 4 * k;
-    row[at] = p.bytes as u32;
-    row[at + 1] = p.units as u32;
-    row[at + 2] = p.points as u32;
-    row[at + 3] = p.lines as u32;
-}
+ghost use Rattle.build.specs.Runs.{Runs};
 
 // Checkpoint 0, which every call writes: the start of the text.
 fn mark_start(row: &mut [u32])
     requires { ⌜ 4 ≤ length (now row) ⌝ }
     ensures { λ r. ⌜ now (row .exit) ≡ begun ruler counts 4 spacing (now (row .entry)) .row ⌝ }
 {
-    mark(
-        row,
-        0,
-        Place {
-            bytes: 0,
-            units: 0,
-            points: 0,
-            lines: 0,
-        },
-    );
-}
-
-// The checkpoint above p and not above q, the place one segment behind it: there is one at most.
-fn pass(p: Place, q: Place, row: &mut [u32])
-    requires { ⌜ Between p q (now row) ⌝ }
-    ensures { λ r. ⌜ now (row .exit) ≡ marked (now (row .entry)) p q ⌝ }
-{
-    let k = p.bytes / checkpoints::SPACING + 1;
-    let due = checkpoints::SPACING * k;
-    if q.bytes < due {
-        return;
-    }
-    if q.bytes == due {
-        mark(row, k, q);
-        return;
-    }
-    mark(row, k, p);
+    marking::mark(row, 0, Place::start());
 }
 
 // The place behind a segment of so many bytes that begins with this one; the checkpoint due on the way is written.
@@ -155,7 +34,7 @@ fn advance(p: Place, size: usize, head: u8, row: &mut [u32]) -> Place
         points: p.points + 1,
         lines: p.lines + place::lines_of(head),
     };
-    pass(p, q, row);
+    marking::pass(p, q, row);
     q
 }
 
@@ -174,79 +53,6 @@ fn keep(left: &[u8], p: Place, taken: usize) -> Builder
     }
 }
 
-// The last settled place of a state.
-fn place_of(state: Builder) -> Place
-    requires { ⌜ state .pending ≤ state .taken ⌝ }
-    ensures { λ r. ⌜ r ≡ settled state ⌝ }
-{
-    Place {
-        bytes: state.taken - state.pending,
-        units: state.units,
-        points: state.points,
-        lines: state.lines,
-    }
-}
-
-// The last byte at or before n that is no later byte.
-fn boundary(text: &[u8], n: usize) -> usize
-    requires { ⌜ (n < length (now text)) × (later (getD (now text) 0 0) ≡ false) ⌝ }
-    ensures { λ r. ⌜ Bound (now (text .entry)) n r ⌝ }
-{
-    let mut b = n;
-    loop {
-        let x = text[b];
-        if x < 0x80 {
-            return b;
-        }
-        if 0xC0 <= x {
-            return b;
-        }
-        b -= 1;
-    }
-}
-
-// The units of a segment that begins with this byte.
-fn units_from(head: u8) -> usize
-    ensures { λ r. ⌜ r ≡ 1 + fourOf head ⌝ }
-{
-    if 0xF0 <= head { 2 } else { 1 }
-}
-
-// The place at the last boundary at or before byte n of whole segments; q has the counts there.
-fn step_back(text: &[u8], n: usize, q: Place) -> Place
-    requires { ⌜ Covers q (now text) n ⌝ }
-    ensures { λ r. ⌜ StepsBack (now (text .entry)) n q r ⌝ }
-{
-    if text.len() <= n {
-        return q;
-    }
-    let b = boundary(text, n);
-    if b == n {
-        return q;
-    }
-    let head = text[b];
-    Place {
-        bytes: q.bytes - (n - b),
-        units: q.units - units_from(head),
-        points: q.points - 1,
-        lines: q.lines - place::lines_of(head),
-    }
-}
-
-// The counts behind some bytes of whole segments.
-fn add_sums(p: Place, text: &[u8]) -> Place
-    requires { ⌜ Roomy p (now text) ⌝ }
-    ensures { λ r. ⌜ r ≡ summed p (now (text .entry)) ⌝ }
-{
-    let s = sums::count(text);
-    Place {
-        bytes: p.bytes + text.len(),
-        units: p.units + s.starts + s.fours,
-        points: p.points + s.starts,
-        lines: p.lines + s.ends,
-    }
-}
-
 // Whole segments are walked over, from one checkpoint to the next.
 fn pass_run(text: &[u8], from: Place, row: &mut [u32]) -> Place
     requires { ⌜ Runs from (now text) (now row) ⌝ }
@@ -257,10 +63,14 @@ fn pass_run(text: &[u8], from: Place, row: &mut [u32]) -> Place
     loop {
         let end = at + (checkpoints::SPACING - q.bytes % checkpoints::SPACING);
         if text.len() < end {
-            return add_sums(q, &text[at..]);
+            return counts::add_sums(q, &text[at..]);
         }
-        q = add_sums(q, &text[at..end]);
-        mark(row, q.bytes / checkpoints::SPACING, step_back(text, end, q));
+        q = counts::add_sums(q, &text[at..end]);
+        marking::mark(
+            row,
+            q.bytes / checkpoints::SPACING,
+            counts::step_back(text, end, q),
+        );
         at = end;
     }
 }
@@ -331,7 +141,7 @@ fn join(seam: &[u8], state: Builder, piece: &[u8], row: &mut [u32]) -> Builder
         (now (row .exit)) r ⌝ }
 {
     let taken = state.taken + piece.len();
-    let p = place_of(state);
+    let p = state.settled();
     let size = pending::settled_size(utf8::segment(seam));
     if size == 0 {
         return keep(seam, p, taken);
@@ -365,14 +175,14 @@ fn end(state: Builder, row: &mut [u32])
         return;
     }
     let held = state.held;
-    advance(place_of(state), n, held[0], row);
+    advance(state.settled(), n, held[0], row);
 }
 
 // Takes a piece: the checkpoints up to the last place that is settled are written.
 pub fn feed(state: Builder, piece: &[u8], row: &mut [u32]) -> Built
     ensures { λ r. ⌜ Feeds state (now (piece .entry)) (now (row .entry)) (now (row .exit)) r ⌝ }
 {
-    match check(state, piece.len(), row.len()) {
+    match builder::check(state, piece.len(), row.len()) {
         Building::Done => Built {
             answer: Building::Done,
             state: take(state, piece, row),
@@ -388,7 +198,7 @@ pub fn feed(state: Builder, piece: &[u8], row: &mut [u32]) -> Built
 pub fn finish(state: Builder, row: &mut [u32]) -> Built
     ensures { λ r. ⌜ Finishes state (now (row .entry)) (now (row .exit)) r ⌝ }
 {
-    match check(state, 0, row.len()) {
+    match builder::check(state, 0, row.len()) {
         Building::Done => {
             end(state, row);
             Built {

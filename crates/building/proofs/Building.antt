@@ -8,9 +8,10 @@ use lib.ListN.{length, getD, take, drop, drop-of-length-le}
 use lib.Seq.{drop-cons}
 use lib.Dec.{eqb}
 use native.Mathlib.Omega.{arith}
-use Rattle.build.specs.Building.{freshBuilder, buildSays, fed, closed, ended, Feeds, Finishes}
-use Rattle.build.specs.declared.Builder.{Builder}
-use Rattle.build.specs.declared.Built as the-built
+use Rattle.builder.specs.State.{freshBuilder, buildSays}
+use Rattle.builder.specs.declared.Builder.{Builder}
+use Rattle.builder.specs.declared.Built as the-built
+use Rattle.build.specs.Building.{fed, closed, ended, Feeds, Finishes}
 use Rattle.comparing.specs.Cuts.{bring}
 use Rattle.building.specs.Builds.{piecesFrom, isGranted, Build, stopped, builds, built, Builds}
 use Rattle.comparing.proofs.Cuts.{bring-from, bring-end}

@@ -17,10 +17,11 @@ use Rattle.checkpoints.specs.Checkpoints.{needed, indexOf}
 use Rattle.index.proofs.Truth.{Indexes}
 use Rattle.audit.specs.Audits.{auditSays}
 use Rattle.audit.proofs.Exactness.{audit-exactly}
-use Rattle.build.specs.Building.{freshBuilder, buildSays, fed, closed, ended}
+use Rattle.builder.specs.State.{freshBuilder, buildSays}
+use Rattle.builder.specs.declared.Building.the-variants.{Done}
+use Rattle.builder.specs.declared.Built.{Built}
+use Rattle.build.specs.Building.{fed, closed, ended}
 use Rattle.build.specs.Course.{Course, started, called, course, Ends}
-use Rattle.build.specs.declared.Building.the-variants.{Done}
-use Rattle.build.specs.declared.Built.{Built}
 use Rattle.build.proofs.Granting.{says-granted, finish-done}
 use Rattle.build.proofs.Calling.{course-holds, course-granted, course-ends}
 use Rattle.comparing.specs.Cuts.{bring}

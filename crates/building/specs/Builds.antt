@@ -9,9 +9,10 @@ use lib.Dec.{ltb, eqb}
 use Rattle.terms.specs.Limits.{limit}
 use Rattle.terms.specs.Told.{ifGranted}
 use Rattle.checkpoints.specs.Checkpoints.{needed}
-use Rattle.build.specs.Building.{freshBuilder, building, buildSays, fed, closed, ended}
-use Rattle.build.specs.declared.Builder.{Builder}
-use Rattle.build.specs.declared.Building.{Building}
+use Rattle.builder.specs.State.{freshBuilder, building, buildSays}
+use Rattle.builder.specs.declared.Builder.{Builder}
+use Rattle.builder.specs.declared.Building.{Building}
+use Rattle.build.specs.Building.{fed, closed, ended}
 use Rattle.comparing.specs.Cuts.{bring}
 
 -- the pieces of a text from a position on; the rest comes last

@@ -1,6 +1,6 @@
 // An index that is built in pieces: the calls of the builder one after another, up to the first refusal.
-use build::Builder;
-use build::Building;
+use builder::Builder;
+use builder::Building;
 use terms::Decoder;
 ghost use mathlib.Core.Path.{_≡_};
 ghost use mathlib.Core.List.{[], _∷_};

@@ -1,6 +1,6 @@
 // Runs the fixed examples on the compiled library and prints what it finds: of each text its elements, its segments, what the
 // strict check tells in the numbers of the refusals (0 is well-formed), its repaired form, and the same in the other form.
-use build::Builder;
+use builder::Builder;
 use libc::STDOUT_FILENO;
 use place::Bytes;
 use place::Lines;

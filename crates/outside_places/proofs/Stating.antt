@@ -5,9 +5,10 @@ use Prim.Native.Nat.{ℕ, _≤_}
 use mathlib.Core.Bool.{Bool, true, false}
 use mathlib.Core.List.{List}
 use lib.ListN.{length}
+use Rattle.builder.specs.State as builder
+use Rattle.builder.specs.declared.Builder.{Builder}
+use Rattle.builder.specs.declared.Built.{Built}
 use Rattle.build.specs.Building as build
-use Rattle.build.specs.declared.Builder.{Builder}
-use Rattle.build.specs.declared.Built.{Built}
 use Rattle.telling.specs.Telling.{saying, Says, put, notCalled, Tells}
 use Rattle.states.specs.States.{kept, builderNumbers}
 use Rattle.telling.specs.declared.Said.{Said}
@@ -18,7 +19,7 @@ use Rattle.outside_places.specs.Keeping.{Freshens, Builds, Ends}
 pub unfreshened : {called : Bool} {state : List ℕ} → called ≡ false → Freshens called state state notCalled
 unfreshened e = rw e (record { reply = refl; next = refl })
 
-pub freshened : {called : Bool} {q : Builder} {state state′ : List ℕ} → called ≡ true → q ≡ build.freshBuilder
+pub freshened : {called : Bool} {q : Builder} {state state′ : List ℕ} → called ≡ true → q ≡ builder.freshBuilder
     → 8 ≤ length state → state′ ≡ kept 8 (builderNumbers q) state → Freshens called state state′ 0
 freshened {q = v} {state = state} e q long k =
     rw e (record { reply = refl; next = k ∙ kept-long 8 state (builderNumbers v) long ∙ ap (λ (b : Builder). put (builderNumbers b) state) q })
@@ -29,7 +30,7 @@ unbuilt e = rw e (record { tells = record { reply = refl; told = refl }; next = 
 
 pub was-built : {called : Bool} {b q : Builder} {piece row row′ state state′ says says′ : List ℕ} {r : ℕ} {f : Built} {s : Said}
     → called ≡ true → q ≡ b → build.Feeds q piece row row′ f → 8 ≤ length state → state′ ≡ kept 8 (builderNumbers (f .state)) state
-    → Says (build.building (f .answer)) s → Tells true (saying s) says says′ r
+    → Says (builder.building (f .answer)) s → Tells true (saying s) says says′ r
     → Builds called b piece row row′ state state′ says says′ r
 was-built {state = state} {f = v} e q f long k s t =
     rw (e, ← q)
@@ -45,7 +46,7 @@ unended e = rw e (record { tells = record { reply = refl; told = refl }; next = 
 
 pub was-ended : {called : Bool} {b q : Builder} {row row′ state state′ says says′ : List ℕ} {r : ℕ} {f : Built} {s : Said}
     → called ≡ true → q ≡ b → build.Finishes q row row′ f → 8 ≤ length state → state′ ≡ kept 8 (builderNumbers (f .state)) state
-    → Says (build.building (f .answer)) s → Tells true (saying s) says says′ r
+    → Says (builder.building (f .answer)) s → Tells true (saying s) says says′ r
     → Ends called b row row′ state state′ says says′ r
 was-ended {state = state} {f = v} e q f long k s t =
     rw (e, ← q)

@@ -6,27 +6,28 @@ use mathlib.Core.Bool.{Bool, cond}
 use mathlib.Core.List.{List}
 use lib.ListN.{length}
 use Rattle.terms.specs.Told.{ifGranted}
+use Rattle.builder.specs.State as builder
+use Rattle.builder.specs.declared.Builder.{Builder}
 use Rattle.build.specs.Building as build
-use Rattle.build.specs.declared.Builder.{Builder}
 use Rattle.telling.specs.Telling.{notCalled, Tells}
 use Rattle.states.specs.Keeping.{stored}
 use Rattle.states.specs.States.{builderNumbers}
 
 pub record Freshens (called : Bool) (state state′ : List ℕ) (r : ℕ) : Type 0 where
   pub reply : r ≡ cond called 0 notCalled
-  pub next : state′ ≡ stored called (builderNumbers build.freshBuilder) state
+  pub next : state′ ≡ stored called (builderNumbers builder.freshBuilder) state
 
 pub record Builds (called : Bool) (b : Builder) (piece row row′ state state′ says says′ : List ℕ) (r : ℕ) : Type 0 where
-  pub tells : Tells called (build.buildSays b (length piece) (length row)) says says′ r
+  pub tells : Tells called (builder.buildSays b (length piece) (length row)) says says′ r
   pub next : state′
       ≡ stored called
       (builderNumbers
-      (ifGranted (build.buildSays b (length piece) (length row)) (build.closed (b .taken + length piece) (build.fed b piece row)) b))
+      (ifGranted (builder.buildSays b (length piece) (length row)) (build.closed (b .taken + length piece) (build.fed b piece row)) b))
       state
   pub checkpoints : row′
-      ≡ cond called (ifGranted (build.buildSays b (length piece) (length row)) (build.fed b piece row .kept .row) row) row
+      ≡ cond called (ifGranted (builder.buildSays b (length piece) (length row)) (build.fed b piece row .kept .row) row) row
 
 pub record Ends (called : Bool) (b : Builder) (row row′ state state′ says says′ : List ℕ) (r : ℕ) : Type 0 where
-  pub tells : Tells called (build.buildSays b 0 (length row)) says says′ r
-  pub next : state′ ≡ stored called (builderNumbers (ifGranted (build.buildSays b 0 (length row)) build.freshBuilder b)) state
-  pub checkpoints : row′ ≡ cond called (ifGranted (build.buildSays b 0 (length row)) (build.ended b row .row) row) row
+  pub tells : Tells called (builder.buildSays b 0 (length row)) says says′ r
+  pub next : state′ ≡ stored called (builderNumbers (ifGranted (builder.buildSays b 0 (length row)) builder.freshBuilder b)) state
+  pub checkpoints : row′ ≡ cond called (ifGranted (builder.buildSays b 0 (length row)) (build.ended b row .row) row) row

@@ -1,5 +1,5 @@
 // The builder of an index.
-use build::Builder;
+use builder::Builder;
 ghost use lib.ListN.{length};
 ghost use lib.Dec.{leb};
 ghost use Rattle.states.specs.States.{ready, builderOf};

@@ -43,7 +43,7 @@ added p (x ∷ xs) h r e n i =
     rw (units-by-size x xs, ← k)
 
 -- THE SUMS ARE PLAIN where there is room
-wrapped-same : (p : Place) → p .bytes < 2 ^ 64 → p .units < 2 ^ 64 → p .points < 2 ^ 64 → p .lines < 2 ^ 64 → wrapped p ≡ p
+pub wrapped-same : (p : Place) → p .bytes < 2 ^ 64 → p .units < 2 ^ 64 → p .points < 2 ^ 64 → p .lines < 2 ^ 64 → wrapped p ≡ p
 wrapped-same p b u c l =
     let eb : p .bytes % 2 ^ 64 ≡ p .bytes = omega arith in
     let eu : p .units % 2 ^ 64 ≡ p .units = omega arith in

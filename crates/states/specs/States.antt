@@ -12,7 +12,7 @@ use Rattle.terms.specs.declared.First.the-variants.{Nothing, Whole, Damage, Beg
 use Rattle.place.specs.Walk.{number, measure}
 use Rattle.place.specs.declared.Offset.{Offset}
 use Rattle.place.specs.declared.Place.{Place}
-use Rattle.build.specs.declared.Builder.{Builder}
+use Rattle.builder.specs.declared.Builder.{Builder}
 use Rattle.telling.specs.Telling.{put, roomy}
 
 -- a slice of at least so many numbers, and at least three, of which the first three are held bytes

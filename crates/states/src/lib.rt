@@ -1,5 +1,5 @@
 // The states and a place, read from numbers in a lent slice and kept there.
-use build::Builder;
+use builder::Builder;
 use place::Bytes;
 use place::Lines;
 use place::Offset;

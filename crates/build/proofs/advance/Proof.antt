@@ -1,11 +1,12 @@
 -- `build::advance` meets its contract: the segment is added in all four counts.
 -- Assumes nothing.
-use mathlib.Core.Path.{_≡_}
+use mathlib.Core.Path.{_≡_, ap, _∙_}
 use Prim.Native.Nat.{_+_}
 use native.Mathlib.Omega.{arith}
 use Rattle.place.specs.Measures.{place}
+use Rattle.marking.specs.Marks.{markedOnce}
 use Rattle.build.specs.Steps.{behind}
-use Rattle.build.proofs.Marking.{units-few, lines-few, behind-between}
+use Rattle.build.proofs.Marking.{between-marked, units-few, lines-few, behind-between}
 use borrow.Author.Needs.{needs}
 use Rattle.build.proofs.advance.Statement.{statement}
 use Rattle.build.proofs.advance.Tie as tie
@@ -39,10 +40,7 @@ added : (c : tie.After-lines-of)
 added c = rw (c .lines-of .ensures, c .before .before .before .units-of .ensures)
 
 pass-requires : tie.Need-pass-requires
-pass-requires c κs =
-    let l = c .before .before in
-    let z = l .before .before .before .before .before .before in
-    rw (added l) (behind-between (z .args .p) (z .args .size) (z .args .head) (z .args .row .now) (z .pre))
+pass-requires c κs = search needs
 
 same-length : tie.Need-same-length
 same-length c = search needs
@@ -51,7 +49,14 @@ returns : tie.Need-returns
 returns c =
     let p = c .before .before in
     let l = p .before .before .before in
-    record { place-is = added l; checkpoints = rw (added l) at (p .pass .ensures) }
+    let z = l .before .before .before .before .before .before in
+    let a = z .args in
+    record {
+      place-is = added l;
+      checkpoints = p .pass .ensures
+          ∙ ap (markedOnce (a .row .now) (a .p)) (added l)
+          ∙ between-marked (a .p) (behind (a .p) (a .size) (a .head)) (a .row .now) (behind-between (a .p) (a .size) (a .head) (a .row .now) (z .pre));
+    }
 
 pub advance-spec : {M : Type 1} → statement M
 advance-spec =

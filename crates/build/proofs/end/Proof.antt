@@ -3,7 +3,7 @@
 use mathlib.Core.Path.{_≡_, refl, sym, ap, _∙_}
 use lib.ListN.{length, length-map}
 use lib.Seq.{length-sets}
-use Rattle.build.proofs.Testing.{Sound, sound-is}
+use Rattle.builder.proofs.Testing.{Sound, sound-is}
 use Rattle.build.proofs.Joining.{end-none, end-ahead, end-some}
 use borrow.Author.Needs.{needs}
 use Rattle.build.proofs.end.Statement.{statement}
@@ -28,8 +28,8 @@ returns c =
     let z = m .before .before .before in
     m .mark-start .ensures ∙ end-none (z .args .state) (z .args .row .now) (passes z) (three z) (c .if1 .taken)
 
-place-of-requires : tie.Need-place-of-requires
-place-of-requires c κs = passes (c .before .before .before .before .before .before .before) .covers
+settled-requires : tie.Need-settled-requires
+settled-requires c κs = search needs
 
 array-read-advance : tie.Need-array-read-advance
 array-read-advance c = search needs
@@ -40,7 +40,7 @@ advance-requires c κs =
     let e = p .before .before in
     let m = e .before .before .before in
     let z = m .before .before .before in
-    rw (p .place-of .ensures)
+    rw (p .settled .ensures)
     (end-ahead (z .args .state) (z .args .row .now) (passes z) (three z) (e .if1 .left) _
     (ap length (m .mark-start .ensures) ∙ simp length-sets) (z .pre))
 
@@ -55,7 +55,7 @@ returns-2 c =
     let m = e .before .before .before in
     let z = m .before .before .before in
     end-some (z .args .state) (z .args .row .now) (passes z) (three z) (e .if1 .left)
-    (m .mark-start .ensures) refl (rw (p .place-of .ensures) at (v .advance .ensures))
+    (m .mark-start .ensures) refl (rw (p .settled .ensures) at (v .advance .ensures))
 
 pub end-spec : {M : Type 1} → statement M
 end-spec =
@@ -64,7 +64,7 @@ end-spec =
     mark-start-requires
     same-length
     returns
-    place-of-requires
+    settled-requires
     array-read-advance
     advance-requires
     same-length-2

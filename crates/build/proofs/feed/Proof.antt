@@ -2,7 +2,7 @@
 -- Assumes nothing.
 use mathlib.Core.Path.{sym, ap, _∙_}
 use lib.ListN.{length}
-use Rattle.build.specs.Building.{building}
+use Rattle.builder.specs.State.{building}
 use Rattle.build.specs.Steps.{Granted}
 use Rattle.build.proofs.Granting.{done-granted, feed-done, feed-refused}
 use borrow.Author.Needs.{needs}

@@ -1,7 +1,7 @@
 -- `build::finish` meets its contract: the checks, and then the end.
 -- Assumes nothing.
 use mathlib.Core.Path.{sym, ap, _∙_}
-use Rattle.build.specs.Building.{building}
+use Rattle.builder.specs.State.{building}
 use Rattle.build.specs.Steps.{Granted}
 use Rattle.build.proofs.Granting.{done-granted, finish-done, finish-refused}
 use borrow.Author.Needs.{needs}

@@ -12,9 +12,8 @@ use Rattle.terms.proofs.Walking.{part-is}
 use Rattle.pending.specs.Tail.{settled}
 use Rattle.pending.proofs.Settling.{told-size}
 use Rattle.place.specs.declared.Place.{Place}
-use Rattle.build.specs.Building.{settled as place}
+use Rattle.builder.specs.State.{settled as place}
 use Rattle.build.specs.Steps.{Advances, streamOf, Walks, Closes}
-use Rattle.build.proofs.Testing.{sound-is}
 use Rattle.build.proofs.Joining.{join-none, join-some, join-over, join-inside, join-ahead, join-walks, join-behind}
 use borrow.Author.Needs.{needs}
 use Rattle.build.proofs.join.Statement.{statement}
@@ -23,8 +22,8 @@ use Rattle.build.proofs.join.Tie as tie
 add-taken : tie.Need-add-taken
 add-taken c = search needs
 
-place-of-requires : tie.Need-place-of-requires
-place-of-requires c κs = let z = c .before .before .before .before in sound-is (z .args .state) (z .pre .granted .tests) .covers
+settled-requires : tie.Need-settled-requires
+settled-requires c κs = search needs
 
 segment-requires : tie.Need-segment-requires
 segment-requires c κs = search needs
@@ -51,7 +50,7 @@ returns c =
     let z = p .before .before .before .before .before in
     let a = z .args in
     join-none (a .state) (a .piece .now) (a .seam .now) (a .row .now) (z .pre) (sym (size-is s) ∙ i .if1 .taken)
-    (a .state .taken + length (a .piece .now)) (c .keep .result) (rw (p .place-of .ensures) at (c .keep .ensures))
+    (a .state .taken + length (a .piece .now)) (c .keep .result) (rw (p .settled .ensures) at (c .keep .ensures))
 
 some : (c : tie.Else1) → total size (settled (c .before .before .before .before .before .before .before .before .args .seam .now)) ≡ 0 → ⊥
 some c n = c .if1 .left (size-is (c .before) ∙ n)
@@ -68,7 +67,7 @@ advance-requires c κs =
     let s = e .before in
     let p = s .before .before in
     let z = p .before .before .before .before .before in
-    rw (size-is s, p .place-of .ensures)
+    rw (size-is s, p .settled .ensures)
     (join-ahead (z .args .state) (z .args .piece .now) (z .args .seam .now) (z .args .row .now) (z .pre) (some e))
 
 -- the segment at the seam is passed
@@ -79,7 +78,7 @@ passed : (c : tie.After-advance)
     (c .advance .last .1 .1 .1 .0) (c .advance .result)
 passed c =
     let s = c .before .before .before .before in
-    rw (size-is s, s .before .before .place-of .ensures) at (c .advance .ensures)
+    rw (size-is s, s .before .before .settled .ensures) at (c .advance .ensures)
 
 -- it reaches over what is pending, and ends in the piece
 over : (c : tie.Else1)
@@ -145,7 +144,7 @@ join-spec =
     tie.close
     (tie.spec
     add-taken
-    place-of-requires
+    settled-requires
     segment-requires
     settled-size-requires
     keep-requires

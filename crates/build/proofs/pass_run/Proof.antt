@@ -1,12 +1,11 @@
 -- `build::pass_run` meets its contract: the run has been counted as far as a byte, and the checkpoints up to there are written.
 -- Assumes nothing.
-use Prim.Native.Nat.{_+_, _-_, _%_}
+use Prim.Native.Nat.{_-_}
 use lib.ListN.{length}
 use native.Mathlib.Omega.{arith}
 use borrow.Author.Needs.{needs}
 use Rattle.terms.proofs.Walking.{part-is}
-use Rattle.checkpoints.specs.Checkpoints.{spacing}
-use Rattle.build.proofs.Passing.{Passed, passed-start, passed-long, passed-roomy, passed-covers, passed-holds, passed-next, passed-end}
+use Rattle.build.proofs.Passing.{Passed, passed-start, passed-long, passed-next, passed-end}
 use Rattle.build.proofs.pass_run.Statement.{statement}
 use Rattle.build.proofs.pass_run.Tie as tie
 
@@ -35,11 +34,7 @@ part-add-sums-end : tie.Need-part-add-sums-end Inv-loop μ-loop
 part-add-sums-end c = search needs
 
 add-sums-requires : tie.Need-add-sums-requires Inv-loop μ-loop
-add-sums-requires c κs =
-    let l = c .before .before .before in
-    let z = l .before .before .before in
-    let text = z .args .text .now in
-    passed-roomy text (z .args .from) (z .args .row .now) (z .pre) (l .loop .inv) (length text) (l .loop .inv .inside) (omega arith)
+add-sums-requires c κs = search needs
 
 same-length : tie.Need-same-length Inv-loop μ-loop
 same-length c =
@@ -65,29 +60,13 @@ part-add-sums-end-2 : tie.Need-part-add-sums-end-2 Inv-loop μ-loop
 part-add-sums-end-2 c = search needs
 
 add-sums-requires-2 : tie.Need-add-sums-requires-2 Inv-loop μ-loop
-add-sums-requires-2 c κs =
-    let e = c .before in
-    let l = e .before .before in
-    let z = l .before .before .before in
-    passed-roomy (z .args .text .now) (z .args .from) (z .args .row .now) (z .pre) (l .loop .inv)
-    (l .loop .at + (spacing - l .loop .q .bytes % spacing)) (omega arith) (e .if1 .left)
+add-sums-requires-2 c κs = search needs
 
 step-back-requires : tie.Need-step-back-requires Inv-loop μ-loop
-step-back-requires c κs =
-    let v = c .before .before in
-    let e = v .before .before in
-    let l = e .before .before in
-    let z = l .before .before .before in
-    passed-covers (z .args .text .now) (z .args .from) (z .args .row .now) (z .pre) (l .loop .inv) (e .if1 .left) (v .add-sums2 .result) (v .add-sums2 .ensures)
+step-back-requires c κs = search needs
 
 mark-requires : tie.Need-mark-requires Inv-loop μ-loop
-mark-requires c κs =
-    let v = c .before .before .before in
-    let e = v .before .before in
-    let l = e .before .before in
-    let z = l .before .before .before in
-    passed-holds (z .args .text .now) (z .args .from) (z .args .row .now) (z .pre) (l .loop .inv) (e .if1 .left) (v .add-sums2 .result) (v .add-sums2 .ensures)
-    (c .step-back .ensures)
+mark-requires c κs = search needs
 
 loop-less : tie.Need-loop-less Inv-loop μ-loop
 loop-less c = omega (arith, c .before .before .before .before .before .before .before .before .if1 .left)

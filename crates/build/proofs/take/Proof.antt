@@ -5,7 +5,7 @@ use mathlib.Core.Path.{_≡_, sym, ap, _∙_}
 use lib.ListN.{length, take, length-map}
 use lib.Seq.{length-take-le, length-sets}
 use Rattle.pending.specs.Tail.{four}
-use Rattle.build.specs.Building.{left}
+use Rattle.builder.specs.State.{left}
 use Rattle.build.proofs.Joining.{granted-row}
 use Rattle.pending.proofs.Holding.{seam-found}
 use borrow.Author.Needs.{needs}

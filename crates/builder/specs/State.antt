@@ -1,0 +1,55 @@
+-- The builder's state: its tests, its last settled place, and what a call answers.
+-- Assumes nothing.
+use Prim.Native.Nat.{ℕ, _+_, _-_}
+use mathlib.Core.Bool.{Bool, cond, _&&_}
+use mathlib.Core.List.{List, [], _∷_}
+use lib.ListN.{take, drop}
+use lib.Dec.{leb, ltb}
+use Rattle.division.specs.Reader.{pending}
+use Rattle.terms.specs.Limits.{limit}
+use Rattle.terms.specs.Told.{refusal}
+use Rattle.utf8.specs.Bytes.{bytes}
+use Rattle.utf8.specs.Pending.{zeros}
+use Rattle.place.specs.Measures.{place}
+use Rattle.place.specs.declared.Place.{Place}
+use Rattle.checkpoints.specs.Checkpoints.{needed}
+use Rattle.builder.specs.declared.Builder.{Builder}
+use Rattle.builder.specs.declared.Building.{Building}
+use Rattle.builder.specs.declared.Building.the-variants.{Done, Refused}
+
+abbrev pub freshBuilder : Builder
+freshBuilder = record { held = 0 ∷ 0 ∷ 0 ∷ []; pending = 0; taken = 0; units = 0; points = 0; lines = 0 }
+
+-- the pending bytes, and the last settled place
+abbrev pub left : Builder → List ℕ
+left b = take (b .pending) (b .held)
+
+abbrev pub settled : Builder → Place
+settled b = place (b .taken - b .pending) (b .units) (b .points) (b .lines)
+
+-- THE TESTS OF A STATE: at most 3 pending bytes, empty or a proper beginning of a well-formed sequence; unused ones 0; taken
+-- within the limit; pending at most taken; lines ≤ code points ≤ units ≤ taken less pending
+abbrev pub sound : Builder → Bool
+sound b =
+    leb (b .pending) 3
+    && pending bytes (left b)
+    && zeros (drop (b .pending) (b .held))
+    && leb (b .taken) limit
+    && leb (b .pending) (b .taken)
+    && leb (b .lines) (b .points)
+    && leb (b .points) (b .units)
+    && leb (b .units) (b .taken - b .pending)
+
+abbrev pub building : Building → List ℕ
+building Done = 0 ∷ []
+building (Refused r) = refusal r
+
+-- ---- A CALL: refusal 8, 2, 3 in this order
+
+abbrev pub buildSays : Builder → ℕ → ℕ → List ℕ
+buildSays b more room =
+    cond (sound b)
+    (cond (ltb limit (b .taken + more)) (2 ∷ [])
+    (cond (ltb room (needed (b .taken + more))) (3 ∷ needed (b .taken + more) ∷ [])
+    (0 ∷ [])))
+    (8 ∷ [])
