@@ -2,15 +2,15 @@
 -- Assumes nothing.
 use mathlib.Core.Path.{_≡_, refl, sym, ap, _∙_}
 use Prim.Native.Nat.{ℕ, _+_, _-_, _≤_, _<_, min}
-use native.Mathlib.Nat.{zero-add, le-refl}
-use native.Mathlib.Numerals.{add-one}
+use native.Mathlib.Nat.{le-refl}
 use mathlib.Core.List.{List, _++_, append-assoc}
 use lib.ListN.{length, getD, take, drop, set, length-append, length-drop, drop-of-length-le}
-use lib.Seq.{paste-suc, length-take-le, take-all, take-take, take-add, take-append-le, drop-drop, drop-at}
+use lib.Seq.{length-take-le, take-all, take-take, take-add, take-append-le, drop-drop, drop-at}
 use native.Mathlib.Omega.{arith}
 use Rattle.division.proofs.Cases.{under}
 use Rattle.terms.proofs.Walking.{part-is}
 use Rattle.terms.proofs.Writing.{lent, back, back-is}
+use Rattle.terms.proofs.Copying.{copied-next as one-more}
 
 -- the first n bytes stand there, and the places behind keep what they held
 pub record Copied (text out₀ out : List ℕ) (n : ℕ) : Type 0 where
@@ -35,7 +35,7 @@ module _ (text out₀ : List ℕ) where
     pub copied-next : n < length text → n < length out₀ → Copied text out₀ (set out n (getD text n 0)) (n + 1)
     copied-next h k =
         copied (set out n (getD text n 0)) (n + 1) (omega arith) (omega arith)
-        (rw (c .same, add-one n) (simp zero-add at (paste-suc out₀ 0 text n 0 (omega arith) h)))
+        (one-more text out₀ out n h k (c .same))
 
     -- a block goes to a place from which on no more than a block was copied
     module _ (at : ℕ) (before : at ≤ n) (near : n ≤ at + 16) (inside : at + 16 ≤ length text) (within : at + 16 ≤ length out₀) where

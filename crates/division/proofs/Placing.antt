@@ -286,9 +286,6 @@ module _ {K P : Type 0} (look : Reader K) {R : Ruler K P} (M : Measured R) (xs :
   pub place-in : {q : P} → PlaceOf look R xs q → R .bytes q ≤ length xs
   place-in b = omega (arith, place-length b)
 
-  pub mark-in : (most : ℕ) → R .bytes (mark look R most xs) ≤ length xs
-  mark-in most = place-in (mark-place look R xs most)
-
   pub mark-le : (most : ℕ) → R .bytes (mark look R most xs) ≤ most
   mark-le most = last-le (R .step) (R .bytes) most (R .zeroth) (cut look xs) (rw (M .none) (omega arith))
 

@@ -4,7 +4,7 @@ ghost use mathlib.Core.Path.{_≡_};
 ghost use mathlib.Core.Bool.{true, _&&_, _||_, cond};
 ghost use Prim.Native.Nat.{ℕ, suc, _-_, _<_, _≤_};
 ghost use lib.ListN.{length};
-ghost use lib.Dec.{leb, ltb};
+ghost use lib.Dec.{leb};
 ghost use Rattle.stands.specs.Stands.{later, stands, standing};
 ghost use Rattle.lanes.specs.Blocks.{Stand, Below, Good};
 

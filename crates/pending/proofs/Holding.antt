@@ -1,14 +1,13 @@
--- How pending bytes are tested, copied and kept in their places.
+-- How pending bytes are tested, and kept in their places.
 -- Assumes nothing.
 use mathlib.Core.Path.{_≡_, refl, sym, ap, _∙_}
 use Prim.Native.Nat.{ℕ, _+_, _-_, min, _≤_, _<_}
-use native.Mathlib.Nat.{zero-add}
 use native.Mathlib.Decide.{decLe}
 use native.Mathlib.Numerals.{add-one}
 use mathlib.Core.Bool.{true, false, _&&_}
 use mathlib.Core.List.{List, [], _∷_, _++_, append-assoc}
-use lib.ListN.{length, getD, take, drop, set, length-append, length-take}
-use lib.Seq.{drop-cons, drop-drop, take-all, take-at, drop-at, take-take, take-append-add, length-take-le, paste-suc}
+use lib.ListN.{length, getD, take, drop, length-append, length-take}
+use lib.Seq.{drop-cons, drop-drop, take-all, take-at, drop-at, take-take, take-append-add, length-take-le}
 use lib.Dec.{leb, eqb}
 use borrow.Author.Tests.{leb-true, le-leb, lt-leb, eq-eqb, ne-eqb}
 use native.Mathlib.Omega.{arith}
@@ -59,13 +58,7 @@ module _ (bytes : List ℕ) (i : ℕ) (h : i < length bytes) (same : zeros bytes
   pub zeros-other : (getD bytes i 0 ≡ 0 → ⊥) → false ≡ zeros bytes
   zeros-other e = sym (zeros-here ∙ rw (ne-eqb (getD bytes i 0) 0 e))
 
--- ---- bytes that are copied
-
--- one byte more
-pub copied-next : (bytes out₀ out : List ℕ) (i : ℕ) → i < length bytes → i < length out₀ → out ≡ take i bytes ++ drop i out₀
-    → set out i (getD bytes i 0) ≡ take (i + 1) bytes ++ drop (i + 1) out₀
-copied-next bytes out₀ out i h k e =
-    rw (e, add-one i) (simp zero-add at (paste-suc out₀ 0 bytes i 0 (omega arith) h))
+-- ---- the first bytes of a text
 
 pub take-min : (j : ℕ) (s : List ℕ) → take (min (length s) j) s ≡ take j s
 take-min j s = go (decLe j (length s))

@@ -75,9 +75,6 @@ module _ (tail piece : List ℕ) (begins : pending bytes tail ≡ true) where
     pub seam-all : seam ≡ tail ++ piece
     seam-all = take-all 4 (tail ++ piece) (omega (arith, short))
 
-    pub seam-short : length seam ≤ 3
-    seam-short = rw seam-all short
-
     pub seam-pending : parts bytes (tail ++ piece) ≡ record { done = []; left = seam }
     seam-pending = settled-none (tail ++ piece) none .1 ∙ rw seam-all
 

@@ -2,8 +2,7 @@
 use terms::First;
 ghost use mathlib.Core.Path.{_≡_};
 ghost use Prim.Native.Nat.{min, _≤_};
-ghost use mathlib.Core.List.{_++_};
-ghost use lib.ListN.{length, drop};
+ghost use lib.ListN.{length};
 ghost use Rattle.utf8.specs.Pending.{zeros, padded};
 ghost use Rattle.pending.specs.Tail.{settledSize, isTail, four, seamOf, Fills};
 
@@ -61,27 +60,15 @@ fn least(a: usize, b: usize) -> usize
     b
 }
 
-// Copies bytes to the start of the output.
-fn copy(bytes: &[u8], out: &mut [u8])
-    requires { ⌜ length (now bytes) ≤ length (now out) ⌝ }
-    ensures { λ r. ⌜ now (out .exit) ≡ now (bytes .entry) ++ drop (length (now (bytes .entry))) (now (out .entry)) ⌝ }
-{
-    let mut i = 0;
-    while i < bytes.len() {
-        out[i] = bytes[i];
-        i += 1;
-    }
-}
-
 // The first four bytes of what is pending and a piece behind it, or all of them; how many they are.
 fn fill(tail: &[u8], piece: &[u8], out: &mut [u8]) -> usize
     requires { ⌜ (length (now tail) ≤ 3) × (length (now out) ≡ 4) ⌝ }
     ensures { λ r. ⌜ Fills (four (now (tail .entry)) (now (piece .entry))) (now (out .entry)) (now (out .exit)) r ⌝ }
 {
-    copy(tail, out);
+    copying::copy(tail, out);
     let n = tail.len();
     let k = least(4 - n, piece.len());
-    copy(&piece[..k], &mut out[n..]);
+    copying::copy(&piece[..k], &mut out[n..]);
     n + k
 }
 
@@ -101,6 +88,6 @@ pub fn hold(left: &[u8]) -> [u8; 3]
 {
     let mut held = [0u8; 3];
     let k = least(left.len(), 3);
-    copy(&left[..k], &mut held);
+    copying::copy(&left[..k], &mut held);
     held
 }

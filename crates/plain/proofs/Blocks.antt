@@ -5,9 +5,9 @@ use Prim.Native.Nat.{ℕ, zero, suc, _+_, _≤_, _<_}
 use native.Mathlib.Nat.{add-zero}
 use native.Mathlib.Numerals.{add-one}
 use mathlib.Core.Bool.{Bool, true, false, _&&_, and-true, and-assoc}
-use mathlib.Core.List.{List, [], _∷_, _++_, append-assoc}
-use lib.ListN.{length, getD, take, drop, set, take-append-drop}
-use lib.Seq.{take-suc, drop-cons, set-at, take-all, length-take-le}
+use mathlib.Core.List.{List, [], _∷_, _++_}
+use lib.ListN.{length, getD, take, drop, take-append-drop}
+use lib.Seq.{take-all, length-take-le}
 use lib.Bits.{bitOr, or-lt, or-add-and, and-le-l, and-le-r}
 use lib.Dec.{ltb}
 use borrow.Author.Tests.{lt-ltb, le-ltb, ltb-true, ltb-false}
@@ -57,20 +57,6 @@ or-low a b = under a 0x80
 
 pub low-next : (xs : List ℕ) (k bits : ℕ) → k < length xs → ltb bits 0x80 ≡ low (take k xs) → ltb (bitOr bits (getD xs k 0)) 0x80 ≡ low (take (k + 1) xs)
 low-next xs k bits h e = or-low bits (getD xs k 0) ∙ rw (add-one, low-suc xs k h, e)
-
--- ---- a text that is copied into an output, element by element
-
-pub copied-next : (text out out′ : List ℕ) (k : ℕ) → k < length text → k < length out → out′ ≡ take k text ++ drop k out
-    → set out′ k (getD text k 0) ≡ take (k + 1) text ++ drop (k + 1) out
-copied-next text out out′ k h l e =
-    let a : ℕ = getD text k 0 in
-    let t : length (take k text) ≡ k = length-take-le k text (omega arith) in
-    rw (add-one, e, drop-cons out k 0 l, set-at (take k text) (getD out k 0) (drop (suc k) out) a k t, take-suc text k 0 h, append-assoc)
-
-pub copied-end : (text out out′ : List ℕ) (n k : ℕ) → n ≡ length text → k ≡ n → out′ ≡ take k text ++ drop k out → out′ ≡ text ++ drop n out
-copied-end text out out′ n k l h e =
-    let f : length text ≤ n = omega arith in
-    e ∙ rw (h, take-all n text f)
 
 -- ---- the units that a text begins with
 

@@ -2,11 +2,11 @@
 -- Assumes nothing.
 use mathlib.Core.Path.{_≡_, sym, ap, _∙_}
 use Prim.Native.Nat.{ℕ, suc, _+_, _-_, _≤_, _<_}
-use native.Mathlib.Nat.{zero-add, add-zero}
+use native.Mathlib.Nat.{add-zero}
 use native.Mathlib.Numerals.{add-one}
 use mathlib.Core.List.{List, [], _∷_, _++_, append-nil}
 use lib.ListN.{length, getD, take, drop, set, length-append, length-drop, take-append-drop}
-use lib.Seq.{length-take-le, drop-drop, getD-drop, paste-suc}
+use lib.Seq.{length-take-le, drop-drop, getD-drop}
 use native.Mathlib.Omega.{arith}
 use Rattle.division.proofs.Cases.{under}
 use Rattle.terms.proofs.Walking.{part-is}
@@ -86,11 +86,6 @@ plain-strides text out out′ n h z p e =
       puts = record { count = sym l; output = rw l e };
       ended = λ q. absurd (z q);
     }
-
--- one byte more is copied
-pub copied-next : (text out₀ out : List ℕ) (i : ℕ) → i < length text → i < length out₀ → out ≡ take i text ++ drop i out₀
-    → set out i (getD text i 0) ≡ take (i + 1) text ++ drop (i + 1) out₀
-copied-next text out₀ out i h k e = rw (e, add-one i) (simp zero-add at (paste-suc out₀ 0 text i 0 (omega arith) h))
 
 -- a plain beginning goes on
 pub plain-more : (text : List ℕ) (at n : ℕ) → Plain text at → Plain (take (length text - at) (drop at text)) n → Plain text (at + n)

@@ -29,18 +29,6 @@ pub fn places(seg: First) -> usize
     }
 }
 
-// Copies bytes to the start of the output.
-fn copy(bytes: &[u8], out: &mut [u8])
-    requires { ⌜ length (now bytes) ≤ length (now out) ⌝ }
-    ensures { λ r. ⌜ now (out .exit) ≡ now (bytes .entry) ++ drop (length (now (bytes .entry))) (now (out .entry)) ⌝ }
-{
-    let mut i = 0;
-    while i < bytes.len() {
-        out[i] = bytes[i];
-        i += 1;
-    }
-}
-
 // The repaired form of the segment that stands first in a text, at the start of the output.
 fn put(seg: First, text: &[u8], out: &mut [u8])
     requires { ⌜ (settledSize seg ≤ length (now text)) × (acting.places seg ≤ length (now out)) ⌝ }
@@ -48,8 +36,8 @@ fn put(seg: First, text: &[u8], out: &mut [u8])
 {
     match seg {
         First::Nothing => {}
-        First::Whole(n) => copy(&text[..n], out),
-        First::Damage(_) => copy(b"\xEF\xBF\xBD", out),
+        First::Whole(n) => copying::copy(&text[..n], out),
+        First::Damage(_) => copying::copy(b"\xEF\xBF\xBD", out),
         First::Begun(_) => {}
     }
 }

@@ -8,7 +8,8 @@ use lib.ListN.{length, getD, take, drop, set}
 use lib.Seq.{length-take-le}
 use native.Mathlib.Omega.{arith}
 use borrow.Author.Tests.{le-leb, lt-leb}
-use Rattle.pending.proofs.Holding.{take-min, copied-next}
+use Rattle.terms.proofs.Copying.{copied-next}
+use Rattle.pending.proofs.Holding.{take-min}
 use Rattle.telling.specs.Telling.{put, roomy, notCalled, Tells}
 
 -- no more are told than there are

@@ -4,4 +4,5 @@ pub mod Pointing
 pub mod Forms
 pub mod Converting
 pub mod Writing
+pub mod Copying
 pub mod Answering

@@ -6,7 +6,7 @@ use Prim.Native.Nat.{ℕ, _-_, _%_, _≤_}
 use lib.ListN.{length, getD, take, drop, length-set}
 use native.Mathlib.Omega.{arith}
 use borrow.Author.Needs.{needs}
-use Rattle.plain.proofs.Blocks.{copied-next, copied-end}
+use Rattle.terms.proofs.Copying.{copied-next, copied-end}
 use Rattle.few.proofs.few_bytes.Statement.{statement}
 use Rattle.few.proofs.few_bytes.Tie as tie
 

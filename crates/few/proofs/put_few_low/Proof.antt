@@ -6,7 +6,7 @@ use mathlib.Core.List.{_++_}
 use lib.ListN.{length, getD, take, drop, length-set}
 use native.Mathlib.Omega.{arith}
 use borrow.Author.Needs.{needs}
-use Rattle.plain.proofs.Blocks.{copied-next, copied-end}
+use Rattle.terms.proofs.Copying.{copied-next, copied-end}
 use Rattle.few.proofs.put_few_low.Statement.{statement}
 use Rattle.few.proofs.put_few_low.Tie as tie
 

@@ -1,11 +1,14 @@
 -- `pending::fill` meets its contract: what is pending is copied, and then the first bytes of the piece.
 -- Assumes nothing.
-use Prim.Native.Nat.{_≤_}
+use Prim.Native.Nat.{ℕ, _≤_}
 use mathlib.Core.Path.{_≡_, sym}
-use lib.ListN.{length, take, length-drop, length-take}
+use mathlib.Core.List.{List, _++_}
+use lib.ListN.{length, take, drop, length-append, length-drop, length-take}
 use lib.Seq.{length-take-le}
 use native.Mathlib.Omega.{arith}
 use borrow.Author.Needs.{needs}
+use Rattle.terms.proofs.Writing.{lent}
+use Rattle.copying.proofs.Copied.{copied-whole}
 use Rattle.pending.proofs.Holding.{four-long, filled}
 use Rattle.pending.proofs.fill.Statement.{statement}
 use Rattle.pending.proofs.fill.Tie as tie
@@ -40,7 +43,7 @@ part-copy-end : tie.Need-part-copy-end
 part-copy-end c = search needs
 
 copy-requires-2 : tie.Need-copy-requires-2
-copy-requires-2 c κs = let l = c .before .before in rw (part l) (simp (length-take, length-drop) (omega (arith, l .least .ensures)))
+copy-requires-2 c κs = search needs
 
 add-result : tie.Need-add-result
 add-result c = search needs
@@ -58,10 +61,15 @@ returns c =
     let tail = a .tail .now in
     let piece = a .piece .now in
     let k = l .least .result in
+    let mid : List ℕ = g .copy .last .1 .0 in
+    let room : length tail ≤ length (a .out .now) = omega (arith, z .pre .0, z .pre .1) in
+    let first : mid ≡ tail ++ drop (length tail) (a .out .now) = copied-whole tail (a .out .now) mid room (g .copy .ensures) in
+    let rest : length (take k piece) ≤ length (lent mid (length tail))
+    = rw (part l, first) (simp (length-take, length-drop, length-append) (omega (arith, l .least .ensures, z .pre .0, z .pre .1))) in
     record {
       long = four-long tail piece (z .pre .0) k (l .least .ensures);
-      output = filled tail piece (z .pre .0) k (l .least .ensures) (a .out .now)
-          (g .copy .last .1 .0) (p .copy2 .last .1 .0) (g .copy .ensures) (p .copy2 .ensures);
+      output = filled tail piece (z .pre .0) k (l .least .ensures) (a .out .now) mid (p .copy2 .last .1 .0)
+          first (copied-whole (take k piece) (lent mid (length tail)) (p .copy2 .last .1 .0) rest (p .copy2 .ensures));
     }
 
 pub fill-spec : {M : Type 1} → statement M

@@ -2,11 +2,12 @@
 -- Assumes nothing.
 use Prim.Native.Nat.{ℕ, _≤_}
 use mathlib.Core.Path.{_≡_, sym, ap, _∙_}
-use mathlib.Core.List.{List}
+use mathlib.Core.List.{List, [], _∷_}
 use lib.ListN.{length, take}
 use lib.Seq.{length-take-le}
 use native.Mathlib.Omega.{arith}
 use borrow.Author.Needs.{needs}
+use Rattle.copying.proofs.Copied.{copied-whole}
 use Rattle.utf8.specs.Pending.{padded}
 use Rattle.pending.proofs.Holding.{take-min, padded-is, padded-take}
 use Rattle.pending.proofs.hold.Statement.{statement}
@@ -29,7 +30,7 @@ slice-aggregate-copy-2 : tie.Need-slice-aggregate-copy-2
 slice-aggregate-copy-2 c = search needs
 
 copy-requires : tie.Need-copy-requires
-copy-requires c κs = let l = c .before .before in omega (arith, part l, l .least .ensures)
+copy-requires c κs = search needs
 
 returns : tie.Need-returns
 returns c =
@@ -38,7 +39,7 @@ returns c =
     let run : List ℕ = take (l .least .result) left in
     let e : run ≡ take 3 left = rw (l .least .ensures) (take-min 3 left) in
     let h : length run ≤ 3 = omega (arith, part l, l .least .ensures) in
-    c .before .copy .ensures ∙ padded-is run h ∙ ap padded e ∙ padded-take left
+    copied-whole run (0 ∷ 0 ∷ 0 ∷ []) _ h (c .before .copy .ensures) ∙ padded-is run h ∙ ap padded e ∙ padded-take left
 
 pub hold-spec : {M : Type 1} → statement M
 hold-spec =

@@ -6,7 +6,7 @@ use mathlib.Core.List.{_++_}
 use lib.ListN.{length, take, drop, length-set}
 use lib.Seq.{take-length}
 use native.Mathlib.Omega.{arith}
-use Rattle.spelling.proofs.Striding.{copied-next}
+use Rattle.terms.proofs.Copying.{copied-next}
 use borrow.Author.Needs.{needs}
 use Rattle.spelling.proofs.widen.Statement.{statement}
 use Rattle.spelling.proofs.widen.Tie as tie

@@ -7,7 +7,7 @@ use lib.ListN.{length, take, drop, length-set}
 use lib.Seq.{take-length}
 use native.Mathlib.Omega.{arith}
 use borrow.Author.Needs.{needs}
-use Rattle.pending.proofs.Holding.{copied-next}
+use Rattle.terms.proofs.Copying.{copied-next}
 use Rattle.states.proofs.copy.Statement.{statement}
 use Rattle.states.proofs.copy.Tie as tie
 

@@ -1,6 +1,6 @@
 -- `strict_utf8::whole_run` meets its contract, by the law of `Fitting`.
 -- Assumes nothing.
-use mathlib.Core.Path.{_≡_, _∙_}
+use mathlib.Core.Path.{_≡_, ap, _∙_}
 use native.Mathlib.Omega.{arith}
 use borrow.Author.Needs.{needs}
 use Rattle.stands.specs.Stands.{standing, waitingAt}
@@ -18,7 +18,7 @@ waiting-requires c κs = search needs
 waits : (c : tie.After-waiting)
     → let text = c .before .before .before .args .text .now in
     c .waiting .result ≡ waitingAt text (standing text)
-waits c = c .waiting .ensures ∙ rw (c .before .standing .ensures)
+waits c = c .waiting .ensures ∙ ap (waitingAt (c .before .before .before .args .text .now)) (c .before .standing .ensures)
 
 sub-result : tie.Need-sub-result
 sub-result c = omega (arith, waits c, c .before .standing .ensures, waits-within (c .before .before .before .args .text .now))
