@@ -43,7 +43,7 @@ left-few d s = omega (arith, length-take (d .pending) (d .held), s .few)
 
 -- it is granted where the tests pass and the byte is within the limit, and only where they pass
 grants : (d : Decoder) → sound d ≡ true → d .taken + 1 ≤ limit → isGranted (watchSays d) ≡ true
-grants d s h = rw (s, le-ltb limit (d .taken + 1) h)
+grants d s h = rw s (ap (λ (t : Bool). isGranted (cond t (2 ∷ []) (0 ∷ []))) (le-ltb limit (d .taken + 1) h))
 
 granted-sound : (d : Decoder) → isGranted (watchSays d) ≡ true → sound d ≡ true
 granted-sound d g = split (sound d) (λ s. s) (λ s. absurd (true≢false (sym (rw s at g))))
