@@ -5,17 +5,17 @@ use Prim.Native.Nat.{ℕ, zero, _+_, _-_, _*_, _/_, _≤_, _<_, suc-le-suc}
 use native.Mathlib.Nat.{zero-add, zero-div, suc-sub-suc, sub-zero, mul-zero, mul-one, mul-suc, mul-add, le-of-lt}
 use mathlib.Core.List.{List, [], _∷_, _++_, foldl, foldl-append}
 use lib.ListN.{length, take, drop, take-append-drop}
-use lib.Seq.{sets, take-at}
+use lib.Seq.{sets}
 use native.Mathlib.Omega.{arith}
 use Rattle.division.specs.Reader.{Reader, Segment, cut, parts}
-use Rattle.division.specs.Stream.{join, fresh, feeds}
+use Rattle.division.specs.Stream.{State, finish}
 use Rattle.division.specs.Tally.{written}
 use Rattle.division.specs.Place.{Ruler, last, mark}
-use Rattle.division.specs.Index.{tab, entry, marks, index, Built, due, build, add, begun, built}
+use Rattle.division.specs.Index.{tab, entry, marks, index, Built, due, build, add, begun}
 use Rattle.division.proofs.Dividing.{Division, written-append, cut-size}
-use Rattle.division.proofs.Streaming.{any-pieces, any-cutting}
+use Rattle.division.proofs.AnyCalls.{Follows, follows-end}
 use Rattle.division.proofs.Tallying.{sets-append}
-use Rattle.division.proofs.Rows.{div-in, div-out, div-up, div-mono, sets-comm, sets-sets, sets-start}
+use Rattle.division.proofs.Rows.{div-in, div-out, div-up, div-mono, sets-comm, sets-sets}
 use Rattle.division.proofs.Rows.{tab-length, tab-append, tab-same, written-fixed, written-at}
 use Rattle.division.proofs.Placing.{climb, last-from, last-append, Measured, bytes-rise, bytes-mono, bytes-foldl, mark-zero}
 use Rattle.division.proofs.Indexing.{True}
@@ -75,16 +75,8 @@ module _ {K P : Type 0} {R : Ruler K P} (M : Measured R) (enc : P → List ℕ) 
       let h : zero + length (enc (R .zeroth)) ≤ width * count p = omega (arith, fixed (R .zeroth), mul-suc width (R .bytes p / spacing)) in
       rw (sets-comm row zero (enc (R .zeroth)) (width * count p) (written enc (due R enc width spacing p ss)) h) (sets-sets _ zero (enc (R .zeroth)))
 
-  -- after each feed the state is the one that the joined text says
-  pub built-state : {look : Reader K} → Division look → (row : List ℕ) (ps : List (List ℕ))
-      → feeds look (add R enc width spacing) (fresh (begun R enc width spacing row)) ps ≡ record {
-        left = parts look (join ps) .left;
-        kept = build R enc width spacing (begun R enc width spacing row) (parts look (join ps) .done);
-      }
-  built-state D row ps = any-pieces D (add R enc width spacing) (begun R enc width spacing row) ps ∙ rw build-foldl
-
   -- and a whole text's segments write its index
-  pub built-is : (look : Reader K) (row xs : List ℕ)
+  built-is : (look : Reader K) (row xs : List ℕ)
       → build R enc width spacing (begun R enc width spacing row) (cut look xs) .row ≡ sets row zero (written enc (index look R spacing xs))
   built-is look row xs =
       rw (
@@ -103,14 +95,19 @@ module _ {K P : Type 0} {R : Ruler K P} (M : Measured R) (enc : P → List ℕ) 
         zero-add,
       )
 
-  -- THE CUTTING DOES NOT MATTER: the index built from any pieces is that of the joined text, whatever the row held before, and
-  -- the rest of the row is as it was
-  pub built-cutting : {look : Reader K} → Division look → (row : List ℕ) (ps : List (List ℕ))
-      → built R enc width spacing look row ps ≡ sets row zero (written enc (index look R spacing (join ps)))
-  built-cutting {look} D row ps =
-      ap (λ (t : Built P). t .row)
-      (any-cutting D (add R enc width spacing) (begun R enc width spacing row) ps ∙ build-foldl (begun R enc width spacing row) (cut look (join ps)))
-      ∙ built-is look row (join ps)
+  -- THE CUTTING DOES NOT MATTER: what follows a text is built of it, however it came; and at the end the row holds its index,
+  -- whatever it held before, and the rest of the row is as it was
+  module _ {look : Reader K} (D : Division look) (row text : List ℕ) (s : State (Built P))
+      (f : Follows D (add R enc width spacing) (begun R enc width spacing row) (λ (s : State (Built P)). s) text s) where
+    pub built-so-far : s .kept ≡ build R enc width spacing (begun R enc width spacing row) (parts look text .done)
+    built-so-far = ap (λ (s : State (Built P)). s .kept) f ∙ build-foldl (begun R enc width spacing row) (parts look text .done)
+
+    pub built-at-end : finish look (add R enc width spacing) s .row ≡ sets row zero (written enc (index look R spacing text))
+    built-at-end =
+        ap (λ (t : Built P). t .row)
+        (follows-end D (add R enc width spacing) (begun R enc width spacing row) (λ (s : State (Built P)). s) text s f
+        ∙ build-foldl (begun R enc width spacing row) (cut look text))
+        ∙ built-is look row text
 
   -- ---- A ROW THAT STARTS WITH THE INDEX IS A TRUE INDEX, where what is written can be read back
 
@@ -124,12 +121,3 @@ module _ {K P : Type 0} {R : Ruler K P} (M : Measured R) (enc : P → List ℕ) 
         ap (λ (r : List ℕ). entry width dec r k) w
         ∙ ap dec (written-at enc width fixed k zero n f (drop (width * n) row) (suc-le-suc (div-up spacing pos (length xs) k h)))
         ∙ rw (zero-add, back)
-
-    pub built-true : {look : Reader K} → Division look → (row : List ℕ) (ps : List (List ℕ)) → width * marks spacing (length (join ps)) ≤ length row
-        → True look R spacing (entry width dec (built R enc width spacing look row ps)) (join ps)
-    built-true {look} D row ps room =
-        let n : ℕ = marks spacing (length (join ps)) in
-        let ns : List ℕ = written enc (index look R spacing (join ps)) in
-        let l : length ns ≡ width * n = rw (written-fixed enc width fixed, tab-length) in
-        row-true look (built R enc width spacing look row ps) (join ps)
-        (rw (built-cutting D row ps, sets-start row ns (omega arith)) (take-at ns (drop (length ns) row) (width * n) l))

@@ -2,7 +2,7 @@
 -- Assumes nothing.
 use mathlib.Core.Path.{_≡_, refl}
 use Prim.Native.Nat.{ℕ, zero, suc, _+_, _≤_, _<_}
-use mathlib.Core.Bool.{Bool, true, false, _&&_, and-eq-true-iff}
+use mathlib.Core.Bool.{Bool, true, false, cond, _&&_, and-eq-true-iff}
 use mathlib.Core.List.{List, [], _∷_}
 use lib.ListN.{drop}
 use lib.Dec.{ltb}
@@ -39,3 +39,9 @@ All P (a ∷ l) = P a × All P l
 
 pub add-swap : (i n : ℕ) → suc i + n ≡ i + suc n
 add-swap i n = omega arith
+
+-- what is made of two things where a test passes may be made of what they are by the same test
+pub either : {A S L : Type 0} (next : S → L → A) (b : Bool) (old : A) (s s′ : S) (l l′ : L)
+    → cond b (next s′ l′) old ≡ cond b (next (cond b s′ s) (cond b l′ l)) old
+either next true old s s′ l l′ = refl
+either next false old s s′ l l′ = refl

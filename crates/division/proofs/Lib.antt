@@ -1,6 +1,7 @@
 pub mod Cases
 pub mod Dividing
 pub mod Streaming
+pub mod AnyCalls
 pub mod Tallying
 pub mod Rows
 pub mod Placing
@@ -9,3 +10,6 @@ pub mod Building
 pub mod Tabling
 pub mod Standing
 pub mod Matching
+pub mod Pending
+pub mod Accepting
+pub mod Reading

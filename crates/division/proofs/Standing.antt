@@ -1,7 +1,7 @@
 -- That a table's reader reads the paper's segments, and that a text divides in exactly one way, for any table whose rows do not meet.
 -- Assumes nothing.
 use mathlib.Core.Path.{_≡_, refl, sym, ap, ap₂, _∙_}
-use mathlib.Core.Logic.{_⊎_, inl, inr, ⊎-elim}
+use mathlib.Core.Logic.{inl, inr, ⊎-elim}
 use Prim.Native.Nat.{ℕ, zero, suc, _≤_, _<_, suc-le-suc}
 use native.Mathlib.Nat.{le-antisymm, le-of-suc-le-suc}
 use mathlib.Core.Bool.{Bool, true, false, cond, _&&_, true≢false}
@@ -223,12 +223,20 @@ module _ (rows : List Row) (x : ℕ) (xs : List ℕ) where
   stands-lead (begins rs b) = rw (b .reads xs) (stands-begun rs b (want rs xs .tag) refl, only-begun rs b)
   stands-lead (alone a) = rw (a .reads xs) (record { none = none-whole a; part = inr (refl, none-begun a) }, only-alone a)
 
+  -- what is not sure begins a sequence
+  begun-lead : Lead rows x → read rows x xs .sure ≡ false → Begun rows (x ∷ xs) (suc (read rows x xs .more))
+  begun-lead (begins rs b) e = rw (b .reads xs) (begun-read rs b)
+  begun-lead (alone a) e = absurd (true≢false (rw (a .reads xs) at e))
+
 module _ (rows : List Row) (s : Sound zero rows) where
   pub stands-read : (x : ℕ) (xs : List ℕ) → Stands rows (x ∷ xs) (suc (read rows x xs .more)) (read rows x xs .tag)
   stands-read x xs = stands-lead rows x xs (lead-of zero rows x s) .0
 
   pub only-read : (x : ℕ) (xs : List ℕ) (n : ℕ) (t : Kind) → Stands rows (x ∷ xs) n t → (n ≡ suc (read rows x xs .more)) × (t ≡ read rows x xs .tag)
   only-read x xs = stands-lead rows x xs (lead-of zero rows x s) .1
+
+  pub unsure-begun : (x : ℕ) (xs : List ℕ) → read rows x xs .sure ≡ false → Begun rows (x ∷ xs) (suc (read rows x xs .more))
+  unsure-begun x xs = begun-lead rows x xs (lead-of zero rows x s)
 
   same : (x : ℕ) (xs : List ℕ) (g : Segment Kind) (ss : List (Segment Kind)) → Divides rows (x ∷ xs) (g ∷ ss)
       → ss ≡ cut (read rows) (drop (length (g .tail)) xs) → g ∷ ss ≡ cut (read rows) (x ∷ xs)

@@ -1,6 +1,6 @@
 -- The laws of what is kept: totals and entries of two runs of segments, the list with room, and the log of a text in pieces.
 -- Assumes nothing.
-use mathlib.Core.Path.{_≡_, refl, ap, _∙_}
+use mathlib.Core.Path.{_≡_, refl, sym, ap, _∙_}
 use Prim.Native.Nat.{ℕ, zero, suc, _+_, _-_, _*_, _≤_, _<_}
 use native.Mathlib.Nat.{zero-add, add-zero, add-assoc, mul-suc, mul-zero, mul-one, mul-add, sub-zero}
 use mathlib.Core.Bool.{Bool, true, false, cond}
@@ -11,11 +11,11 @@ use lib.Dec.{ltb}
 use borrow.Author.Tests.{ltb-true, ltb-false}
 use native.Mathlib.Omega.{arith}
 use Rattle.division.specs.Reader.{Reader, Segment, first, cut, parts}
-use Rattle.division.specs.Stream.{join, fresh, feeds, finish}
+use Rattle.division.specs.Stream.{State, finish}
 use Rattle.division.specs.Tally.{written, total, size, Entry, noted, entries, wholeOf, damagedOf, countOf, store, Log, log}
 use Rattle.division.proofs.Cases.{split, add-swap}
 use Rattle.division.proofs.Dividing.{Division, parts-nil, parts-sure, parts-open, by-parts, parts-size, first-size}
-use Rattle.division.proofs.Streaming.{any-pieces, any-cutting}
+use Rattle.division.proofs.AnyCalls.{Follows, follows-end}
 
 -- ---- damage: its entries, with their starts, and the three totals
 
@@ -104,32 +104,46 @@ module _ {K : Type 0} (bad : K → Bool) (w : Segment K → List ℕ) (enc : Ent
       = omega (arith, one-or-other (bad (s .tag)) (size s)) in
       log-is (log bad w enc width room l s) ss ∙ rw (pos, store-append, noted-length) (simp (add-assoc, append-assoc))
 
+  -- an output in front of a log, and a log without its output
+  abbrev pub behind : List ℕ → Log → Log
+  behind out l = record { whole = l .whole; damaged = l .damaged; count = l .count; out = out ++ l .out; list = l .list }
+
+  abbrev pub unwritten : Log → Log
+  unwritten l = record { whole = l .whole; damaged = l .damaged; count = l .count; out = []; list = l .list }
+
+  -- what a run of segments writes does not depend on what was written before
+  pub log-behind : (l : Log) (ss : List (Segment K))
+      → foldl (log bad w enc width room) l ss ≡ behind (l .out) (foldl (log bad w enc width room) (unwritten l) ss)
+  log-behind l ss = log-is l ss ∙ ap (behind (l .out)) (sym (log-is (unwritten l) ss))
+
   abbrev pub empty : List ℕ → Log
   empty row = record { whole = zero; damaged = zero; count = zero; out = []; list = row }
 
-  -- THE CUTTING DOES NOT MATTER: over any division, any written form, any room and any pieces
-  module _ {look : Reader K} (D : Division look) (row : List ℕ) (ps : List (List ℕ)) where
-    -- after each feed the state is the one that the joined text says
-    pub state-is : feeds look (log bad w enc width room) (fresh (empty row)) ps
-        ≡ record { left = parts look (join ps) .left; kept = logged (empty row) (parts look (join ps) .done) }
-    state-is = any-pieces D (log bad w enc width room) (empty row) ps ∙ rw log-is
+  -- what segments make of the empty log: their totals, their written form, and the first of their entries in the list
+  abbrev pub tallied : List ℕ → List (Segment K) → Log
+  tallied row ss = record {
+    whole = total (wholeOf bad) ss;
+    damaged = total (damagedOf bad) ss;
+    count = total (countOf bad) ss;
+    out = written w ss;
+    list = sets row zero (written enc (take room (entries bad zero ss)));
+  }
 
-    -- and it balances
-    pub balance : (feeds look (log bad w enc width room) (fresh (empty row)) ps) .kept .whole
-        + (feeds look (log bad w enc width room) (fresh (empty row)) ps) .kept .damaged
-        + length ((feeds look (log bad w enc width room) (fresh (empty row)) ps) .left) ≡ length (join ps)
-    balance = rw state-is (simp zero-add (rw (whole-damaged bad (parts look (join ps) .done)) (parts-size look (join ps))))
+  module _ (fixed : (e : Entry K) → length (enc e) ≡ width) (row : List ℕ) where
+    tallied-is : (ss : List (Segment K)) → foldl (log bad w enc width room) (empty row) ss ≡ tallied row ss
+    tallied-is ss = log-is (empty row) ss ∙ rw (store-is enc width room fixed) (simp (zero-add, mul-zero, sub-zero))
 
-    -- and at the end there is what the joined text gives
-    pub result-is : ((e : Entry K) → length (enc e) ≡ width)
-        → finish look (log bad w enc width room) (feeds look (log bad w enc width room) (fresh (empty row)) ps) ≡ record {
-          whole = total (wholeOf bad) (cut look (join ps));
-          damaged = total (damagedOf bad) (cut look (join ps));
-          count = total (countOf bad) (cut look (join ps));
-          out = written w (cut look (join ps));
-          list = sets row zero (written enc (take room (entries bad zero (cut look (join ps)))));
-        }
-    result-is fixed =
-        any-cutting D (log bad w enc width room) (empty row) ps
-        ∙ log-is (empty row) (cut look (join ps))
-        ∙ rw (store-is enc width room fixed) (simp (zero-add, mul-zero, sub-zero))
+    -- THE CUTTING DOES NOT MATTER: over any division, any written form and any room, the log that follows a text is the one that
+    -- the text says, however it came
+    module _ {look : Reader K} (D : Division look) (text : List ℕ) (s : State Log)
+        (f : Follows D (log bad w enc width room) (empty row) (λ (s : State Log). s) text s) where
+      pub so-far : s .kept ≡ tallied row (parts look text .done)
+      so-far = ap (λ (s : State Log). s .kept) f ∙ tallied-is (parts look text .done)
+
+      -- it balances
+      pub balance : s .kept .whole + s .kept .damaged + length (s .left) ≡ length text
+      balance = rw (so-far, whole-damaged bad (parts look text .done), f) (parts-size look text)
+
+      -- and at the end there is what all the text gives
+      pub at-end : finish look (log bad w enc width room) s ≡ tallied row (cut look text)
+      at-end = follows-end D (log bad w enc width room) (empty row) (λ (s : State Log). s) text s f ∙ tallied-is (cut look text)

@@ -7,7 +7,6 @@ use lib.ListN.{length, take, drop}
 use lib.Seq.{sets}
 use lib.Dec.{ltb, leb}
 use Rattle.division.specs.Reader.{Reader, Segment, cut}
-use Rattle.division.specs.Stream.{fresh, feeds, finish}
 use Rattle.division.specs.Tally.{written}
 use Rattle.division.specs.Place.{Ruler, Found, past, unusable, lookup, last, mark}
 
@@ -56,10 +55,6 @@ module _ {K P : Type 0} (R : Ruler K P) (enc : P → List ℕ) (width spacing : 
 
   abbrev pub begun : List ℕ → Built P
   begun row = record { place = R .zeroth; row = sets row zero (enc (R .zeroth)) }
-
-  -- the row that is built from pieces
-  abbrev pub built : Reader K → List ℕ → List (List ℕ) → List ℕ
-  built look row ps = finish look add (feeds look add (fresh (begun row)) ps) .row
 
 -- ---- lookup in an index, of which `ix k` is checkpoint k, whatever it holds
 

@@ -1,5 +1,6 @@
 pub mod Reader
 pub mod Stream
+pub mod Course
 pub mod Tally
 pub mod Place
 pub mod Index

@@ -26,9 +26,6 @@ module _ {K M : Type 0} (look : Reader K) (act : M → Segment K → M) where
   abbrev pub feed : State M → List ℕ → State M
   feed s piece = after (s .kept) (s .left ++ piece)
 
-  abbrev pub feeds : State M → List (List ℕ) → State M
-  feeds = foldl feed
-
   -- at the end what is pending is a text of its own
   abbrev pub finish : State M → M
   finish s = foldl act (s .kept) (cut look (s .left))

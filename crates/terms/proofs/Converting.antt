@@ -1,6 +1,7 @@
 -- The laws of conversion and repair, over any faithful forms: what is written divides as it was meant, and comes back.
 -- Assumes nothing.
 use mathlib.Core.Path.{_≡_, refl, sym, ap, ap₂, _∙_}
+use mathlib.Core.Logic.{_↔_}
 use Prim.Native.Nat.{ℕ, _≤_}
 use mathlib.Core.Bool.{true, false, true≢false}
 use mathlib.Core.List.{List, [], _∷_, _++_, map, cons≢nil}
@@ -8,14 +9,14 @@ use lib.ListN.{length, getD}
 use lib.Dec.{ltb, eqb}
 use borrow.Author.Tests.{ltb-false, le-ltb}
 use native.Mathlib.Omega.{arith}
-use Rattle.division.specs.Reader.{Segment, body, first, rest, cut}
+use Rattle.division.specs.Reader.{Reader, Segment, body, first, rest, cut}
 use Rattle.division.specs.Table.{Kind, whole, damage, isDamage}
 use Rattle.division.specs.Tally.{written, Entry, entries}
 use Rattle.division.proofs.Cases.{split, All}
 use Rattle.division.proofs.Dividing.{cut-nil, cut-cons, by-segments, cut-text}
 use Rattle.terms.specs.Limits.{limit}
 use Rattle.terms.specs.Form.{isScalar, Form, mend, repaired, pointOf, converted}
-use Rattle.terms.specs.Strict.{damages, strictly, limited}
+use Rattle.terms.specs.Strict.{damages, strictly, damaged, limited, checkSays}
 use Rattle.terms.specs.Writing.{roomed, convertSays}
 use Rattle.terms.proofs.Forms.{asWhole, Faithful}
 
@@ -143,6 +144,16 @@ pub strictly-granted : (refuse : Entry Kind → List ℕ) → Refuses refuse →
     → strictly refuse es granted ≡ 0 ∷ ns → (es ≡ []) × (granted ≡ 0 ∷ ns)
 strictly-granted refuse refuses [] granted e = (refl, e)
 strictly-granted refuse refuses (x ∷ es) granted e = absurd (true≢false (rw e at (refuses x)))
+
+-- THE CHECK ACCEPTS exactly the texts within the limit that are what texts with no damage are, of any reader
+pub check-accepts : {Formed : List ℕ → Type 0} (look : Reader Kind) → ((text : List ℕ) → (damages look text ≡ []) ↔ Formed text)
+    → (text : List ℕ) → (checkSays look text ≡ 0 ∷ []) ↔ ((length text ≤ limit) × Formed text)
+check-accepts look formed text = (
+  (λ e.
+      let l = limited-granted text (strictly damaged (damages look text) (0 ∷ [])) e in
+      (l .0, formed text .0 (strictly-granted damaged (λ _. refl) (damages look text) (0 ∷ []) (l .1) .0))),
+  (λ h. rw (le-ltb limit (length text) (h .0), formed text .1 (h .1))),
+)
 
 pub roomed-granted : (room : ℕ) (form : List ℕ) {ns : List ℕ} → roomed room form ≡ 0 ∷ ns → length form ≤ room
 roomed-granted room form e = split (ltb room (length form))

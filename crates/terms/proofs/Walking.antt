@@ -9,7 +9,7 @@ use lib.Seq.{take-all, drop-drop}
 use lib.Dec.{ltb}
 use borrow.Author.Tests.{lt-ltb, le-ltb, ltb-false}
 use native.Mathlib.Omega.{arith}
-use Rattle.division.specs.Reader.{Reader, Segment, body, cut}
+use Rattle.division.specs.Reader.{Reader, Segment, cut}
 use Rattle.division.specs.Reader as reader
 use Rattle.division.specs.Table.{Kind, whole, damage, isDamage}
 use Rattle.division.specs.Tally.{total, size, Entry, entries}
@@ -75,7 +75,6 @@ seen look (x ∷ xs) n kind sure e = record {
 -- A TURN OF A WALK that has come to a place: the segment there has n elements, and the walk goes on behind it
 pub record Turn (look : Reader Kind) (text : List ℕ) (at n : ℕ) (kind : Kind) : Type 0 where
   pub segment : Segment Kind
-  pub body-is : body segment ≡ take n (drop at text)
   pub size-is : size segment ≡ n
   pub kind-is : segment .tag ≡ kind
   pub some : 0 < n
@@ -92,7 +91,6 @@ module _ {look : Reader Kind} (D : Division look) (text : List ℕ) (at : ℕ) w
       let e : n ≡ suc (look x xs .more) = s .long-is in
       record {
         segment = reader.first look x xs;
-        body-is = rw (s .text-is, e);
         size-is = omega (arith, first-size D x xs);
         kind-is = s .kind-is;
         some = omega arith;

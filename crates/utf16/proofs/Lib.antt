@@ -1,4 +1,5 @@
 pub mod Rows
+pub mod Accepting
 pub mod Reading
 pub mod Scalars
 pub mod Plain

@@ -2,34 +2,26 @@
 -- Assumes nothing.
 use mathlib.Core.Path.{_≡_, refl, _∙_}
 use mathlib.Core.Logic.{_⊎_, inl, inr}
-use Prim.Native.Nat.{ℕ, zero, suc, _≤_, _<_}
+use Prim.Native.Nat.{ℕ, zero, _≤_, _<_}
 use mathlib.Core.Bool.{true, false}
 use mathlib.Core.List.{List, [], _∷_}
 use lib.ListN.{take, drop}
 use native.Mathlib.Omega.{arith}
-use Rattle.division.specs.Reader.{Segment, cut}
-use Rattle.division.specs.Table.{_to_, within, Kind, whole, damage, isDamage, want, lone}
-use Rattle.division.specs.Sequence.{Stands, Divides}
+use Rattle.division.specs.Table.{_to_, within, whole, damage, isDamage, want, lone}
+use Rattle.division.specs.Sequence.{Reads}
 use Rattle.division.proofs.Cases.{split, under}
-use Rattle.division.proofs.Dividing.{Division, Holds}
-use Rattle.division.proofs.Tabling.{in-range, begun-row, begun-none, table-division, table-holds, table-top, table-damage, table-whole}
-use Rattle.division.proofs.Standing.{Sound, is-sound, stands-read, only-read, cut-divides, divides-once}
+use Rattle.division.proofs.Dividing.{Division}
+use Rattle.division.proofs.Tabling.{in-range, begun-row, begun-none, table-division, table-damage, table-whole}
+use Rattle.division.proofs.Standing.{Sound, is-sound}
 use Rattle.division.proofs.Matching.{of-row, read-sequence}
+use Rattle.division.proofs.Reading.{table-reads}
 use Rattle.utf16.specs.Units.{rows, units}
 
--- ---- texts of units are a division; at most 1 unit is held back, and damage has 1
+-- ---- texts of units are a division, and damage has 1 unit
 
 pub units-division : Division units
 unfolding units
 units-division = table-division rows
-
-pub units-hold : Holds units 1
-unfolding units rows
-units-hold = table-holds rows
-
-pub units-top : (x : ℕ) (xs : List ℕ) → units x xs .more ≤ 1
-unfolding units rows
-units-top = table-top rows
 
 pub damage-one : (x : ℕ) (xs : List ℕ) → isDamage (units x xs .tag) ≡ true → units x xs .more ≡ 0
 unfolding units rows
@@ -39,27 +31,15 @@ pub whole-sure : (x : ℕ) (xs : List ℕ) → isDamage (units x xs .tag) ≡ fa
 unfolding units
 whole-sure = table-whole rows
 
--- ---- THE PAPER'S WORDS: the segment that is read is the one that stands there, and any text divides in exactly one way
+-- ---- THE PAPER'S WORDS hold of this reader
 
 pub rows-sound : Sound zero rows
 unfolding rows
 rows-sound = is-sound zero rows refl
 
-pub units-stand : (x : ℕ) (xs : List ℕ) → Stands rows (x ∷ xs) (suc (units x xs .more)) (units x xs .tag)
+pub units-read : Reads rows units
 unfolding units
-units-stand = stands-read rows rows-sound
-
-pub only-units : (x : ℕ) (xs : List ℕ) (n : ℕ) (t : Kind) → Stands rows (x ∷ xs) n t → (n ≡ suc (units x xs .more)) × (t ≡ units x xs .tag)
-unfolding units
-only-units = only-read rows rows-sound
-
-pub units-divide : (text : List ℕ) → Divides rows text (cut units text)
-unfolding units
-units-divide = cut-divides rows rows-sound
-
-pub units-once : (ss : List (Segment Kind)) (text : List ℕ) → Divides rows text ss → ss ≡ cut units text
-unfolding units
-units-once = divides-once rows rows-sound
+units-read = table-reads rows rows-sound
 
 -- ---- and unit by unit
 

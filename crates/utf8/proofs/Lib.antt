@@ -1,3 +1,4 @@
 pub mod Rows
+pub mod Accepting
 pub mod Following
 pub mod Scalars

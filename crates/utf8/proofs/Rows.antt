@@ -7,13 +7,14 @@ use mathlib.Core.List.{List, _∷_, _++_}
 use mathlib.Core.Option.{some, none}
 use lib.ListN.{length, getD, take, drop}
 use native.Mathlib.Omega.{arith}
-use Rattle.division.specs.Reader.{Segment, cut}
-use Rattle.division.specs.Table.{Row, Kind, isDamage, want, begun}
-use Rattle.division.specs.Sequence.{Stands, Divides}
+use Rattle.division.specs.Table.{Row, isDamage, want, begun}
+use Rattle.division.specs.Sequence.{Reads}
 use Rattle.division.proofs.Cases.{All}
 use Rattle.division.proofs.Dividing.{Division, Holds}
 use Rattle.division.proofs.Tabling.{begun-row, begun-none, table-division, table-holds, table-top, table-damage, table-whole}
-use Rattle.division.proofs.Standing.{Sound, is-sound, stands-read, only-read, cut-divides, divides-once}
+use Rattle.division.proofs.Standing.{Sound, is-sound}
+use Rattle.division.proofs.Reading.{table-reads}
+use Rattle.terms.specs.Limits.{mostPending, mostDamaged}
 use Rattle.terms.specs.Told.{first, lookSays, firstSays}
 use Rattle.terms.specs.declared.First.the-variants.{Damage}
 use Rattle.terms.proofs.Walking.{says-look}
@@ -48,7 +49,7 @@ pub bytes-division : Division bytes
 unfolding bytes
 bytes-division = table-division rows
 
-pub bytes-hold : Holds bytes 3
+pub bytes-hold : Holds bytes mostPending
 unfolding bytes rows
 bytes-hold = table-holds rows
 
@@ -56,7 +57,7 @@ pub bytes-top : (x : ℕ) (xs : List ℕ) → bytes x xs .more ≤ 3
 unfolding bytes rows
 bytes-top = table-top rows
 
-pub damage-short : (x : ℕ) (xs : List ℕ) → isDamage (bytes x xs .tag) ≡ true → suc (bytes x xs .more) ≤ 3
+pub damage-short : (x : ℕ) (xs : List ℕ) → isDamage (bytes x xs .tag) ≡ true → suc (bytes x xs .more) ≤ mostDamaged
 unfolding bytes rows
 damage-short = table-damage rows (omega arith)
 
@@ -64,24 +65,12 @@ pub whole-sure : (x : ℕ) (xs : List ℕ) → isDamage (bytes x xs .tag) ≡ fa
 unfolding bytes
 whole-sure = table-whole rows
 
--- ---- THE PAPER'S WORDS: the segment that is read is the one that stands there, and any text divides in exactly one way
+-- ---- THE PAPER'S WORDS hold of this reader
 
 pub rows-sound : Sound zero rows
 unfolding rows
 rows-sound = is-sound zero rows refl
 
-pub bytes-stand : (x : ℕ) (xs : List ℕ) → Stands rows (x ∷ xs) (suc (bytes x xs .more)) (bytes x xs .tag)
+pub bytes-read : Reads rows bytes
 unfolding bytes
-bytes-stand = stands-read rows rows-sound
-
-pub only-bytes : (x : ℕ) (xs : List ℕ) (n : ℕ) (t : Kind) → Stands rows (x ∷ xs) n t → (n ≡ suc (bytes x xs .more)) × (t ≡ bytes x xs .tag)
-unfolding bytes
-only-bytes = only-read rows rows-sound
-
-pub bytes-divide : (text : List ℕ) → Divides rows text (cut bytes text)
-unfolding bytes
-bytes-divide = cut-divides rows rows-sound
-
-pub bytes-once : (ss : List (Segment Kind)) (text : List ℕ) → Divides rows text ss → ss ≡ cut bytes text
-unfolding bytes
-bytes-once = divides-once rows rows-sound
+bytes-read = table-reads rows rows-sound
