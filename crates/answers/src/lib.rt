@@ -6,6 +6,7 @@ use repair::Begun;
 use repair::Total;
 use telling::Said;
 use terms::Checked;
+use terms::Decoder;
 use terms::First;
 use terms::Point;
 use terms::Refusal;
@@ -16,11 +17,11 @@ ghost use Rattle.terms.specs.Told.{refusal, first, checked, written, bit};
 ghost use Rattle.repair.specs.Feeding.{begun, total};
 ghost use Rattle.place.specs.Lookup.{placed};
 ghost use Rattle.builder.specs.State.{building};
-ghost use Rattle.telling.specs.Telling.{Says};
+ghost use Rattle.telling.specs.Telling.{saidOf};
 ghost use Rattle.answers.specs.Answers.{three, seamNumbers};
 
 pub fn say_refusal(r: Refusal) -> Said
-    ensures { λ s. ⌜ Says (refusal r) s ⌝ }
+    ensures { λ s. ⌜ s ≡ saidOf (refusal r) ⌝ }
 {
     match r {
         Refusal::Damaged { start, length } => Said {
@@ -63,7 +64,7 @@ pub fn say_refusal(r: Refusal) -> Said
 }
 
 pub fn say_checked(a: Checked) -> Said
-    ensures { λ s. ⌜ Says (checked a) s ⌝ }
+    ensures { λ s. ⌜ s ≡ saidOf (checked a) ⌝ }
 {
     match a {
         Checked::WellFormed => Said {
@@ -75,7 +76,7 @@ pub fn say_checked(a: Checked) -> Said
 }
 
 pub fn say_written(a: Written) -> Said
-    ensures { λ s. ⌜ Says (written a) s ⌝ }
+    ensures { λ s. ⌜ s ≡ saidOf (written a) ⌝ }
 {
     match a {
         Written::Count(n) => Said {
@@ -87,7 +88,7 @@ pub fn say_written(a: Written) -> Said
 }
 
 pub fn say_first(a: First) -> Said
-    ensures { λ s. ⌜ Says (first a) s ⌝ }
+    ensures { λ s. ⌜ s ≡ saidOf (first a) ⌝ }
 {
     match a {
         First::Nothing => Said {
@@ -110,7 +111,7 @@ pub fn say_first(a: First) -> Said
 }
 
 pub fn say_point(p: Point) -> Said
-    ensures { λ s. ⌜ Says (p .number ∷ p .size ∷ []) s ⌝ }
+    ensures { λ s. ⌜ s ≡ saidOf (p .number ∷ p .size ∷ []) ⌝ }
 {
     Said {
         numbers: [p.number as usize, p.size, 0, 0, 0],
@@ -119,7 +120,7 @@ pub fn say_point(p: Point) -> Said
 }
 
 pub fn say_placed(a: Placed) -> Said
-    ensures { λ s. ⌜ Says (placed a) s ⌝ }
+    ensures { λ s. ⌜ s ≡ saidOf (placed a) ⌝ }
 {
     match a {
         Placed::At(p) => Said {
@@ -131,7 +132,7 @@ pub fn say_placed(a: Placed) -> Said
 }
 
 pub fn say_begun(a: Begun) -> Said
-    ensures { λ s. ⌜ Says (begun a) s ⌝ }
+    ensures { λ s. ⌜ s ≡ saidOf (begun a) ⌝ }
 {
     match a {
         Begun::Ready => Said {
@@ -143,7 +144,7 @@ pub fn say_begun(a: Begun) -> Said
 }
 
 pub fn say_total(a: Total) -> Said
-    ensures { λ s. ⌜ Says (total a) s ⌝ }
+    ensures { λ s. ⌜ s ≡ saidOf (total a) ⌝ }
 {
     match a {
         Total::Given {
@@ -160,7 +161,7 @@ pub fn say_total(a: Total) -> Said
 }
 
 pub fn say_building(a: Building) -> Said
-    ensures { λ s. ⌜ Says (building a) s ⌝ }
+    ensures { λ s. ⌜ s ≡ saidOf (building a) ⌝ }
 {
     match a {
         Building::Done => Said {
@@ -172,7 +173,7 @@ pub fn say_building(a: Building) -> Said
 }
 
 pub fn say_seam(a: Seam) -> Said
-    ensures { λ s. ⌜ Says (seamNumbers a) s ⌝ }
+    ensures { λ s. ⌜ s ≡ saidOf (seamNumbers a) ⌝ }
 {
     let b = a.bytes;
     Said {
@@ -187,8 +188,8 @@ pub fn say_seam(a: Seam) -> Said
     }
 }
 
-pub fn say_held(held: [u8; 3]) -> Said
-    ensures { λ s. ⌜ Says (three held) s ⌝ }
+pub fn say_held(held: [u8; Decoder::PENDING]) -> Said
+    ensures { λ s. ⌜ s ≡ saidOf (three held) ⌝ }
 {
     Said {
         numbers: [

@@ -1,3 +1,4 @@
 pub mod Mapping
 pub mod Squeezing
 pub mod Blocks
+pub mod Once

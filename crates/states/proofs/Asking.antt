@@ -5,11 +5,15 @@ use Prim.Native.Nat.{ℕ, _≤_, _<_}
 use mathlib.Core.Bool.{Bool, true, false, _&&_}
 use mathlib.Core.List.{List}
 use lib.ListN.{length}
+use lib.Dec.{eqb}
 use borrow.Author.Tests.{le-leb, lt-leb, lt-ltb, le-ltb}
+use Rattle.division.proofs.Cases.{split}
+use Rattle.place.specs.Walk.{number, measure}
+use Rattle.place.specs.declared.Offset.{Offset}
 use Rattle.place.specs.declared.Place.{Place}
 use Rattle.telling.specs.Telling.{roomy}
 use Rattle.states.specs.Keeping.{writable}
-use Rattle.states.specs.States.{isState, ready, asked}
+use Rattle.states.specs.States.{isState, ready, asked, measureOf, offsetOf}
 
 -- ---- a state
 
@@ -46,7 +50,8 @@ module _ (from : List ℕ) (kind : ℕ) where
     pub not-kind : 4 ≤ length from → 4 ≤ kind → asked from kind && roomy says ≡ false
     not-kind h k = rw (le-leb 4 (length from) h, le-ltb kind 4 k)
 
-pub as-asked : (says : (Place → ℕ) → ℕ → Place → List ℕ) {m m′ : Place → ℕ} {n n′ : ℕ} {p p′ : Place} → m ≡ m′ → n ≡ n′ → p ≡ p′
-    → says m n p ≡ says m′ n′ p′
-as-asked says {m} {m′} {n} {n′} {p} {p′} a b c =
-    ap (λ (x : Place → ℕ). says x n p) a ∙ ap (λ (x : ℕ). says m′ x p) b ∙ ap (λ (x : Place). says m′ n′ x) c
+-- an offset of a kind counts in its measure, and is of so many
+pub as-asked : (says : (Place → ℕ) → ℕ → Place → List ℕ) (kind n : ℕ) {to : Offset} {p p′ : Place} → to ≡ offsetOf kind n → p ≡ p′
+    → says (measure to) (number to) p ≡ says (measureOf kind) n p′
+as-asked says kind n e f =
+    split (eqb kind 0) (λ b. rw (e, f, b)) (λ b. split (eqb kind 1) (λ u. rw (e, f, b, u)) (λ u. split (eqb kind 2) (λ c. rw (e, f, b, u, c)) (λ c. rw (e, f, b, u, c))))

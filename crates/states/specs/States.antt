@@ -1,23 +1,23 @@
 -- The states and a place, as numbers in a lent slice.
 -- Assumes nothing.
-use mathlib.Core.Path.{_≡_}
 use Prim.Native.Nat.{ℕ, _%_}
 use mathlib.Core.Bool.{Bool, cond, _&&_}
 use mathlib.Core.List.{List, [], _∷_}
 use lib.ListN.{length, getD}
 use lib.Dec.{leb, ltb, eqb}
+use Rattle.terms.specs.Limits.{mostPending}
 use Rattle.terms.specs.declared.Decoder.{Decoder}
 use Rattle.terms.specs.declared.First.{First}
 use Rattle.terms.specs.declared.First.the-variants.{Nothing, Whole, Damage, Begun}
-use Rattle.place.specs.Walk.{number, measure}
 use Rattle.place.specs.declared.Offset.{Offset}
+use Rattle.place.specs.declared.Offset.the-variants.{Byte, Unit, Point, Line}
 use Rattle.place.specs.declared.Place.{Place}
 use Rattle.builder.specs.declared.Builder.{Builder}
 use Rattle.telling.specs.Telling.{put, roomy}
 
 -- a slice of at least so many numbers, and at least three, of which the first three are held bytes
 abbrev pub isState : ℕ → List ℕ → Bool
-isState n s = leb n (length s) && leb 3 (length s) && ltb (getD s 0 0) 256 && ltb (getD s 1 0) 256 && ltb (getD s 2 0) 256
+isState n s = leb n (length s) && leb mostPending (length s) && ltb (getD s 0 0) 256 && ltb (getD s 1 0) 256 && ltb (getD s 2 0) 256
 
 -- a call is made where its state is one, and where there is room to tell
 abbrev pub ready : ℕ → List ℕ → List ℕ → Bool
@@ -72,9 +72,9 @@ measureOf kind =
     cond (eqb kind 0) (λ p. p .bytes) (cond (eqb kind 1) (λ p. p .units) (cond (eqb kind 2) (λ p. p .points) (λ p. p .lines)))
 
 -- an offset of so many in the measure of a kind
-pub record Offsets (kind n : ℕ) (to : Offset) : Type 0 where
-  pub measures : measure to ≡ measureOf kind
-  pub numbers : number to ≡ n
+abbrev pub offsetOf : ℕ → ℕ → Offset
+offsetOf kind n =
+    cond (eqb kind 0) (Byte (record { 0 = n })) (cond (eqb kind 1) (Unit (record { 0 = n })) (cond (eqb kind 2) (Point (record { 0 = n })) (Line (record { 0 = n }))))
 
 -- what stands first, by its kind and its size
 abbrev pub firstOf : ℕ → ℕ → First

@@ -13,7 +13,7 @@ ghost use mathlib.Core.Path.{_≡_};
 ghost use lib.ListN.{length, getD};
 ghost use Rattle.checkpoints.specs.Checkpoints.{placeOf};
 ghost use Rattle.telling.specs.Telling.{put};
-ghost use Rattle.states.specs.States.{isState, heldOf, decoderOf, decoderNumbers, builderOf, builderNumbers, kept, firstOf, Offsets};
+ghost use Rattle.states.specs.States.{isState, heldOf, decoderOf, decoderNumbers, builderOf, builderNumbers, kept, offsetOf, firstOf};
 
 // Are there so many numbers, and at least three, of which the first three are bytes?
 pub fn is_state(numbers: &[usize], n: usize) -> bool
@@ -22,7 +22,7 @@ pub fn is_state(numbers: &[usize], n: usize) -> bool
     if numbers.len() < n {
         return false;
     }
-    if numbers.len() < 3 {
+    if numbers.len() < Decoder::PENDING {
         return false;
     }
     if 256 <= numbers[0] {
@@ -50,7 +50,7 @@ fn byte_at(numbers: &[usize], i: usize) -> u8
     (number_at(numbers, i) % 256) as u8
 }
 
-pub fn held_of(numbers: &[usize]) -> [u8; 3]
+pub fn held_of(numbers: &[usize]) -> [u8; Decoder::PENDING]
     ensures { λ r. ⌜ r ≡ heldOf (now (numbers .entry)) ⌝ }
 {
     [
@@ -156,7 +156,7 @@ pub fn place_of(numbers: &[usize]) -> Place
 
 // So many in the measure of a kind: 0 bytes, 1 units, 2 code points, else lines.
 pub fn offset_of(kind: usize, n: usize) -> Offset
-    ensures { λ r. ⌜ Offsets kind n r ⌝ }
+    ensures { λ r. ⌜ r ≡ offsetOf kind n ⌝ }
 {
     if kind == 0 {
         return Offset::Byte(Bytes(n));

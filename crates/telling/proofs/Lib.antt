@@ -1,2 +1,4 @@
 pub mod Telling
+pub mod Saying
 pub mod Wrapping
+pub mod Once

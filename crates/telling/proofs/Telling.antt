@@ -10,12 +10,12 @@ use native.Mathlib.Omega.{arith}
 use borrow.Author.Tests.{le-leb, lt-leb}
 use Rattle.terms.proofs.Copying.{copied-next}
 use Rattle.pending.proofs.Holding.{take-min}
-use Rattle.telling.specs.Telling.{put, roomy, notCalled, Tells}
+use Rattle.telling.specs.Telling.{places, put, roomy, notCalled, Tells}
 
 -- no more are told than there are
-pub told-part : (n count : ℕ) (numbers : List ℕ) → length numbers ≡ 5 → n ≡ min 5 count → take n numbers ≡ take count numbers
-told-part n count numbers five e =
-    let f : n ≡ min (length numbers) count = e ∙ ap (λ (k : ℕ). min k count) (sym five) in
+pub told-part : (n count : ℕ) (numbers : List ℕ) → length numbers ≡ places → n ≡ min places count → take n numbers ≡ take count numbers
+told-part n count numbers long e =
+    let f : n ≡ min (length numbers) count = e ∙ ap (λ (k : ℕ). min k count) (sym long) in
     ap (λ (k : ℕ). take k numbers) f ∙ take-min count numbers
 
 -- the numbers that are stored one by one

@@ -9,9 +9,10 @@ use borrow.Author.Tests.{le-leb, lt-leb}
 use Rattle.terms.specs.Told.{written}
 use Rattle.terms.specs.Writing as call
 use Rattle.terms.specs.declared.Written.{Written}
-use Rattle.telling.specs.Telling.{saying, Says, roomy, notCalled, Tells}
+use Rattle.telling.specs.Telling.{saying, saidOf, roomy, notCalled, Tells}
 use Rattle.telling.specs.declared.Said.{Said}
 use Rattle.telling.specs.Writing.{Writes}
+use Rattle.telling.proofs.Saying.{said-written}
 
 -- what is said may be said in other words
 pub as-said : {called : Bool} {a b says says′ : List ℕ} {r : ℕ} → a ≡ b → Tells called a says says′ r → Tells called b says says′ r
@@ -35,7 +36,7 @@ pub unwritten : {said form out says : List ℕ} → length says < 8 → Writes (
 unwritten {says = says} h = rw (lt-leb 8 (length says) h) (record { tells = record { reply = refl; told = refl }; output = refl })
 
 pub wrote : {said form out out′ says says′ : List ℕ} {r : ℕ} {w : Written} {s : Said} → 8 ≤ length says
-    → call.Writes said form out out′ w → Says (written w) s → Tells (roomy says) (saying s) says says′ r
+    → call.Writes said form out out′ w → s ≡ saidOf (written w) → Tells (roomy says) (saying s) says says′ r
     → Writes (roomy says) said form out out′ says says′ r
-wrote {says = says} h w s t =
-    rw (le-leb 8 (length says) h) (record { tells = as-said (s .numbers ∙ w .answer) (roomed h t); output = w .output })
+wrote {says = says} {w = v} h w s t =
+    rw (le-leb 8 (length says) h) (record { tells = as-said (said-written v s ∙ w .answer) (roomed h t); output = w .output })

@@ -4,16 +4,21 @@ use mathlib.Core.Path.{_≡_}
 use Prim.Native.Nat.{ℕ}
 use mathlib.Core.Bool.{Bool, cond}
 use mathlib.Core.List.{List, _++_}
-use lib.ListN.{length, take, drop}
+use lib.ListN.{length, take, drop, replicate}
 use lib.Dec.{leb}
 use Rattle.telling.specs.declared.Said.{Said}
+
+-- the most numbers that are said of an answer
+abbrev pub places : ℕ
+places = 5
 
 -- what is said of an answer
 abbrev pub saying : Said → List ℕ
 saying s = take (s .count) (s .numbers)
 
-pub record Says (said : List ℕ) (s : Said) : Type 0 where
-  pub numbers : saying s ≡ said
+-- how numbers are said: 0 stands in the places behind them
+abbrev pub saidOf : List ℕ → Said
+saidOf said = record { numbers = take places (said ++ replicate places 0); count = length said }
 
 -- numbers stand at the start of a slice, and the places behind keep what they held
 abbrev pub put : List ℕ → List ℕ → List ℕ

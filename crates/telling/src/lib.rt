@@ -2,16 +2,18 @@
 ghost use Prim.Native.Nat.{min, _≤_};
 ghost use mathlib.Core.Path.{_≡_};
 ghost use lib.ListN.{length, take};
-ghost use Rattle.telling.specs.Telling.{saying, put, roomy, Tells};
+ghost use Rattle.telling.specs.Telling.{places, saying, put, roomy, Tells};
 
 // The reply where nothing is called.
 pub const NOT_CALLED: usize = 18_446_744_073_709_551_615;
 // The places that a call asks of the slice in which it tells.
 pub const ROOM: usize = 8;
+// The most numbers that are said of an answer.
+pub const PLACES: usize = 5;
 
 // What is said of an answer: so many of the numbers.
 pub struct Said {
-    pub numbers: [usize; 5],
+    pub numbers: [usize; PLACES],
     pub count: usize,
 }
 
@@ -23,8 +25,8 @@ pub fn wide(b: u8) -> usize
 }
 
 // Puts so many of the numbers at the start of a slice: without a loop, so that a count that is known leaves plain stores.
-fn put_each(numbers: [usize; 5], n: usize, says: &mut [usize])
-    requires { ⌜ (n ≤ 5) × (5 ≤ length (now says)) ⌝ }
+fn put_each(numbers: [usize; PLACES], n: usize, says: &mut [usize])
+    requires { ⌜ (n ≤ places) × (places ≤ length (now says)) ⌝ }
     ensures { λ r. ⌜ now (says .exit) ≡ put (take n numbers) (now (says .entry)) ⌝ }
 {
     if n == 0 {
@@ -66,7 +68,7 @@ pub fn tell(said: Said, says: &mut [usize]) -> usize
         return NOT_CALLED;
     }
     let numbers = said.numbers;
-    let n = least(5, said.count);
+    let n = least(PLACES, said.count);
     put_each(numbers, n, says);
     n
 }

@@ -14,7 +14,7 @@ say-refusal-requires : tie.Need-say-refusal-requires
 say-refusal-requires c κs = search needs
 
 returns : tie.Need-returns
-returns c = search needs
+returns c = rw (c .enum-told .given .1)
 
 returns-2 : tie.Need-returns-2
 returns-2 c = rw (c .before .before .a .given .1) (c .say-refusal .ensures)

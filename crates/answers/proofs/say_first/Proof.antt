@@ -1,6 +1,5 @@
 -- By what stands first.
 -- Assumes nothing.
-use mathlib.Core.Path.{refl}
 use borrow.Author.Needs.{needs}
 use Rattle.answers.proofs.say_first.Statement.{statement}
 use Rattle.answers.proofs.say_first.Tie as tie
@@ -18,16 +17,16 @@ enum-known-a-3 : tie.Need-enum-known-a-3
 enum-known-a-3 c = search needs
 
 returns : tie.Need-returns
-returns c = search needs
+returns c = rw (c .enum-told .given .1)
 
 returns-2 : tie.Need-returns-2
-returns-2 c = rw (c .before .a .given .1) (record { numbers = refl })
+returns-2 c = rw (c .before .a .given .1)
 
 returns-3 : tie.Need-returns-3
-returns-3 c = rw (c .before .a2 .given .1) (record { numbers = refl })
+returns-3 c = rw (c .before .a2 .given .1)
 
 returns-4 : tie.Need-returns-4
-returns-4 c = rw (c .before .a3 .given .1) (record { numbers = refl })
+returns-4 c = rw (c .before .a3 .given .1)
 
 pub say-first-spec : {M : Type 1} → statement M
 say-first-spec =

@@ -1,6 +1,5 @@
 -- By the refusal.
 -- Assumes nothing.
-use mathlib.Core.Path.{refl}
 use borrow.Author.Needs.{needs}
 use Rattle.answers.proofs.say_refusal.Statement.{statement}
 use Rattle.answers.proofs.say_refusal.Tie as tie
@@ -33,31 +32,31 @@ enum-known-r-4 : tie.Need-enum-known-r-4
 enum-known-r-4 c = search needs
 
 returns : tie.Need-returns
-returns c = rw (c .before .r .given .1) (record { numbers = refl })
+returns c = rw (c .before .r .given .1)
 
 returns-2 : tie.Need-returns-2
-returns-2 c = search needs
+returns-2 c = rw (c .enum-told .given .1)
 
 returns-3 : tie.Need-returns-3
-returns-3 c = rw (c .before .r2 .given .1) (record { numbers = refl })
+returns-3 c = rw (c .before .r2 .given .1)
 
 returns-4 : tie.Need-returns-4
-returns-4 c = search needs
+returns-4 c = rw (c .enum-told2 .given .1)
 
 returns-5 : tie.Need-returns-5
-returns-5 c = search needs
+returns-5 c = rw (c .enum-told3 .given .1)
 
 returns-6 : tie.Need-returns-6
-returns-6 c = rw (c .before .r3 .given .1) (record { numbers = refl })
+returns-6 c = rw (c .before .r3 .given .1)
 
 returns-7 : tie.Need-returns-7
-returns-7 c = search needs
+returns-7 c = rw (c .enum-told4 .given .1)
 
 returns-8 : tie.Need-returns-8
-returns-8 c = search needs
+returns-8 c = rw (c .enum-told5 .given .1)
 
 returns-9 : tie.Need-returns-9
-returns-9 c = rw (c .before .r4 .given .1) (record { numbers = refl })
+returns-9 c = rw (c .before .r4 .given .1)
 
 pub say-refusal-spec : {M : Type 1} → statement M
 say-refusal-spec =

@@ -1,6 +1,5 @@
 -- The size and the four bytes.
 -- Assumes nothing.
-use mathlib.Core.Path.{refl}
 use borrow.Author.Needs.{needs}
 use Rattle.answers.proofs.say_seam.Statement.{statement}
 use Rattle.answers.proofs.say_seam.Tie as tie
@@ -30,7 +29,7 @@ wide-requires-4 : tie.Need-wide-requires-4
 wide-requires-4 c κs = search needs
 
 returns : tie.Need-returns
-returns c = rw (c .before .before .before .wide .ensures, c .before .before .wide2 .ensures, c .before .wide3 .ensures, c .wide4 .ensures) (record { numbers = refl })
+returns c = rw (c .before .before .before .wide .ensures, c .before .before .wide2 .ensures, c .before .wide3 .ensures, c .wide4 .ensures)
 
 pub say-seam-spec : {M : Type 1} → statement M
 say-seam-spec =

@@ -1,6 +1,5 @@
 -- By the answer.
 -- Assumes nothing.
-use mathlib.Core.Path.{refl}
 use borrow.Author.Needs.{needs}
 use Rattle.answers.proofs.say_written.Statement.{statement}
 use Rattle.answers.proofs.say_written.Tie as tie
@@ -15,7 +14,7 @@ say-refusal-requires : tie.Need-say-refusal-requires
 say-refusal-requires c κs = search needs
 
 returns : tie.Need-returns
-returns c = rw (c .before .a .given .1) (record { numbers = refl })
+returns c = rw (c .before .a .given .1)
 
 returns-2 : tie.Need-returns-2
 returns-2 c = rw (c .before .before .a2 .given .1) (c .say-refusal .ensures)

@@ -3,14 +3,15 @@
 use mathlib.Core.Path.{_≡_}
 use lib.ListN.{length, length-set}
 use native.Mathlib.Omega.{arith}
+use Rattle.telling.specs.Telling.{places}
 use Rattle.telling.proofs.Telling.{stored-told}
 use borrow.Author.Needs.{needs}
 use Rattle.telling.proofs.put_each.Statement.{statement}
 use Rattle.telling.proofs.put_each.Tie as tie
 
 -- an array has its length
-five : (c : tie.Start) → length (c .args .t1) ≡ 5
-five c = c .good .0 .1 .0 .1
+long : (c : tie.Start) → length (c .args .t1) ≡ places
+long c = c .good .0 .1 .0 .1
 
 returns : tie.Need-returns
 returns c = search needs
@@ -27,7 +28,7 @@ same-length c = search needs
 returns-2 : tie.Need-returns-2
 returns-2 c =
     let z = c .before .before in
-    stored-told (z .args .t1) (z .args .says .now) (z .args .n) 1 (c .if2 .taken) (omega (arith, five z)) (omega (arith, z .pre))
+    stored-told (z .args .t1) (z .args .says .now) (z .args .n) 1 (c .if2 .taken) (omega (arith, long z)) (omega (arith, z .pre))
 
 array-read-says-2 : tie.Need-array-read-says-2
 array-read-says-2 c = search needs
@@ -41,7 +42,7 @@ same-length-2 c = search needs
 returns-3 : tie.Need-returns-3
 returns-3 c =
     let z = c .before .before .before in
-    stored-told (z .args .t1) (z .args .says .now) (z .args .n) 2 (c .if3 .taken) (omega (arith, five z)) (omega (arith, z .pre))
+    stored-told (z .args .t1) (z .args .says .now) (z .args .n) 2 (c .if3 .taken) (omega (arith, long z)) (omega (arith, z .pre))
 
 array-read-says-3 : tie.Need-array-read-says-3
 array-read-says-3 c = search needs
@@ -55,7 +56,7 @@ same-length-3 c = search needs
 returns-4 : tie.Need-returns-4
 returns-4 c =
     let z = c .before .before .before .before in
-    stored-told (z .args .t1) (z .args .says .now) (z .args .n) 3 (c .if4 .taken) (omega (arith, five z)) (omega (arith, z .pre))
+    stored-told (z .args .t1) (z .args .says .now) (z .args .n) 3 (c .if4 .taken) (omega (arith, long z)) (omega (arith, z .pre))
 
 array-read-says-4 : tie.Need-array-read-says-4
 array-read-says-4 c = search needs
@@ -69,7 +70,7 @@ same-length-4 c = search needs
 returns-5 : tie.Need-returns-5
 returns-5 c =
     let z = c .before .before .before .before .before in
-    stored-told (z .args .t1) (z .args .says .now) (z .args .n) 4 (c .if5 .taken) (omega (arith, five z)) (omega (arith, z .pre))
+    stored-told (z .args .t1) (z .args .says .now) (z .args .n) 4 (c .if5 .taken) (omega (arith, long z)) (omega (arith, z .pre))
 
 array-read-says-5 : tie.Need-array-read-says-5
 array-read-says-5 c = search needs
@@ -83,7 +84,7 @@ same-length-5 c = search needs
 returns-6 : tie.Need-returns-6
 returns-6 c =
     let z = c .before .before .before .before .before in
-    stored-told (z .args .t1) (z .args .says .now) (z .args .n) 5 (omega arith) (omega (arith, five z)) (omega (arith, z .pre))
+    stored-told (z .args .t1) (z .args .says .now) (z .args .n) places (omega arith) (omega (arith, long z)) (omega (arith, z .pre))
 
 pub put-each-spec : {M : Type 1} → statement M
 put-each-spec =

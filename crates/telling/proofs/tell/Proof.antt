@@ -6,18 +6,18 @@ use mathlib.Core.List.{List}
 use lib.ListN.{length, take, length-map}
 use lib.Seq.{length-take-le}
 use native.Mathlib.Omega.{arith}
-use Rattle.telling.specs.Telling.{put}
+use Rattle.telling.specs.Telling.{places, put}
 use Rattle.telling.proofs.Telling.{told-part, told-short, told-copied}
 use borrow.Author.Needs.{needs}
 use Rattle.telling.proofs.tell.Statement.{statement}
 use Rattle.telling.proofs.tell.Tie as tie
 
 -- an array has its length
-five : (c : tie.Start) → length (c .args .said .numbers) ≡ 5
-five c = sym (length-map (c .args .said .numbers) (λ v. v)) ∙ c .good .0 .1 .1 .0 .1 .0 .1
+long : (c : tie.Start) → length (c .args .said .numbers) ≡ places
+long c = sym (length-map (c .args .said .numbers) (λ v. v)) ∙ c .good .0 .1 .1 .0 .1 .0 .1
 
 fewer : (c : tie.After-least) → c .least .result ≤ length (c .before .before .before .before .args .said .numbers)
-fewer c = omega (arith, five (c .before .before .before .before), c .least .ensures)
+fewer c = omega (arith, long (c .before .before .before .before), c .least .ensures)
 
 part : (c : tie.After-least) → length (take (c .least .result) (c .before .before .before .before .args .said .numbers)) ≡ c .least .result
 part c = length-take-le (c .least .result) (c .before .before .before .before .args .said .numbers) (fewer c)
@@ -39,7 +39,7 @@ returns-2 c =
     let l = c .before .before .before .before in
     let z = l .before .before .before .before in
     let said = z .args .said in
-    let e = told-part (l .least .result) (said .count) (said .numbers) (five z) (l .least .ensures) in
+    let e = told-part (l .least .result) (said .count) (said .numbers) (long z) (l .least .ensures) in
     told-copied (z .args .says .now) (l .before .before .if1 .left) (sym (part l) ∙ ap length e)
     (c .before .before .put-each .ensures ∙ ap (λ (run : List ℕ). put run (z .args .says .now)) e)
 
