@@ -20,9 +20,8 @@ use Rattle.terms.specs.Told.{refusal}
 use Rattle.terms.specs.declared.Refusal.{Refusal}
 use Rattle.terms.proofs.Telling.{no-zero}
 use Rattle.terms.proofs.Walking.{part-is}
-use Rattle.utf8.specs.Bytes.{bytes}
-use Rattle.utf8.proofs.Rows.{bytes-division}
-use Rattle.place.specs.Measures.{ruler}
+use Rattle.place.proofs.Reading.{reader-division}
+use Rattle.place.specs.Measures.{ruler, reader}
 use Rattle.place.specs.Lookup.{counts, placed}
 use Rattle.place.specs.Walk.{reached, lastSays}
 use Rattle.place.specs.declared.Place.{Place}
@@ -30,7 +29,7 @@ use Rattle.place.specs.declared.Placed.{Placed}
 use Rattle.place.specs.declared.Placed.the-variants.{At, Refused}
 use Rattle.place.proofs.Measuring.{measured}
 use Rattle.place.proofs.Telling.{told-counts}
-use Rattle.checkpoints.specs.Checkpoints.{spacing, needed, checkpoint}
+use Rattle.checkpoints.specs.Checkpoints.{spacing, width, needed, checkpoint}
 use Rattle.index.proofs.Truth.{fair-place}
 use Rattle.audit.specs.Audits.{same, auditSays}
 use Rattle.audit.proofs.Entries.{checkpoint-counts, same-append}
@@ -38,35 +37,35 @@ use Rattle.audit.proofs.Entries.{checkpoint-counts, same-append}
 -- ---- places of a text within the limit
 
 -- a later mark is found from each of them that does not lie behind it
-mark-from : (text : List ℕ) (most : ℕ) {p : Place} → PlaceOf bytes ruler text p → p .bytes ≤ most
-    → reached (λ p. p .bytes) most p (drop (p .bytes) text) ≡ mark bytes ruler most text
+mark-from : (text : List ℕ) (most : ℕ) {p : Place} → PlaceOf reader ruler text p → p .bytes ≤ most
+    → reached (λ p. p .bytes) most p (drop (p .bytes) text) ≡ mark reader ruler most text
 mark-from text most {p} b h =
-    ap (last (ruler .step) (ruler .bytes) most p) (sym (place-behind bytes-division measured text b))
+    ap (last (ruler .step) (ruler .bytes) most p) (sym (place-behind reader-division measured text b))
     ∙ sym (ap (last (ruler .step) (ruler .bytes) most (ruler .zeroth)) (b .joined)
     ∙ last-from (ruler .step) (ruler .bytes) (bytes-mono measured) most (ruler .zeroth) (b .front) (b .behind) (rw (b .place) at h)
     ∙ rw (← b .place))
 
 -- as the walk tells it, which is handed `&text[at..]`
-pub mark-told : (text : List ℕ) → length text ≤ limit → (most : ℕ) {p : Place} → PlaceOf bytes ruler text p → p .bytes ≤ most
-    → lastSays (λ p. p .bytes) most p (take (length text - p .bytes) (drop (p .bytes) text)) ≡ 0 ∷ counts (mark bytes ruler most text)
+pub mark-told : (text : List ℕ) → length text ≤ limit → (most : ℕ) {p : Place} → PlaceOf reader ruler text p → p .bytes ≤ most
+    → lastSays (λ p. p .bytes) most p (take (length text - p .bytes) (drop (p .bytes) text)) ≡ 0 ∷ counts (mark reader ruler most text)
 mark-told text h most {p} b k =
     let rest : List ℕ = drop (p .bytes) text in
-    let l : p .bytes + length rest ≤ limit = omega (arith, place-in bytes measured text b, length-drop (p .bytes) text) in
+    let l : p .bytes + length rest ≤ limit = omega (arith, place-in reader measured text b, length-drop (p .bytes) text) in
     rw (part-is text (p .bytes), le-ltb limit (p .bytes + length rest) l, fair-place text h b)
     (ap (λ (q : Place). 0 ∷ counts q) (mark-from text most b k))
 
 -- ---- THE WAY: what is left to compare, from checkpoint k on, decides
 
 abbrev rows : List ℕ → ℕ → ℕ → List ℕ
-rows text k n = written counts (tab k n (λ i. mark bytes ruler (spacing * i) text))
+rows text k n = written counts (tab k n (λ i. mark reader ruler (spacing * i) text))
 
 pub record Audited (text row : List ℕ) (k : ℕ) (p : Place) : Type 0 where
   pub within : length text ≤ limit
   pub room : needed (length text) ≤ length row
   pub upto : k ≤ marks spacing (length text)
-  pub place : PlaceOf bytes ruler text p
+  pub place : PlaceOf reader ruler text p
   pub before : p .bytes ≤ spacing * k
-  pub left : let n = marks spacing (length text) - k in auditSays text row ≡ same (take (4 * n) (drop (4 * k) row)) (rows text k n)
+  pub left : let n = marks spacing (length text) - k in auditSays text row ≡ same (take (width * n) (drop (width * k) row)) (rows text k n)
 
 -- refused before
 module _ (text row : List ℕ) where
@@ -81,7 +80,7 @@ module _ (text row : List ℕ) where
     within = h;
     room = k;
     upto = omega arith;
-    place = start-boundary (ruler .step) (ruler .zeroth) (cut bytes text);
+    place = start-boundary (ruler .step) (ruler .zeroth) (cut reader text);
     before = omega arith;
     left = rw (le-leb (length text) limit h, le-leb (needed (length text)) (length row) k, sub-zero);
   }
@@ -89,7 +88,7 @@ module _ (text row : List ℕ) where
 module _ {text row : List ℕ} {k : ℕ} {p : Place} (a : Audited text row k p) where
   -- it has come to a place of the text
   pub audited-in : p .bytes ≤ length text
-  audited-in = place-in bytes measured text (a .place)
+  audited-in = place-in reader measured text (a .place)
 
   -- all are compared
   pub audited-end : marks spacing (length text) ≤ k → true ≡ auditSays text row
@@ -97,44 +96,44 @@ module _ {text row : List ℕ} {k : ℕ} {p : Place} (a : Audited text row k p) 
 
   -- what the walk to the next mark told
   module _ (r : Placed) (told : placed r ≡ lastSays (λ p. p .bytes) (spacing * k) p (take (length text - p .bytes) (drop (p .bytes) text))) where
-    told-mark : placed r ≡ 0 ∷ counts (mark bytes ruler (spacing * k) text)
+    told-mark : placed r ≡ 0 ∷ counts (mark reader ruler (spacing * k) text)
     told-mark = told ∙ mark-told text (a .within) (spacing * k) (a .place) (a .before)
 
-    pub audited-found : (q : Place) → r ≡ At q → q ≡ mark bytes ruler (spacing * k) text
+    pub audited-found : (q : Place) → r ≡ At q → q ≡ mark reader ruler (spacing * k) text
     audited-found q e =
-        let f : 0 ∷ counts q ≡ 0 ∷ counts (mark bytes ruler (spacing * k) text) = ap placed (sym e) ∙ told-mark in
-        told-counts q (mark bytes ruler (spacing * k) text) (cc)
+        let f : 0 ∷ counts q ≡ 0 ∷ counts (mark reader ruler (spacing * k) text) = ap placed (sym e) ∙ told-mark in
+        told-counts q (mark reader ruler (spacing * k) text) (cc)
 
     pub audited-refused : (w : Refusal) → r ≡ Refused w → ⊥
     audited-refused w e =
-        let f : refusal w ≡ 0 ∷ counts (mark bytes ruler (spacing * k) text) = ap placed (sym e) ∙ told-mark in
+        let f : refusal w ≡ 0 ∷ counts (mark reader ruler (spacing * k) text) = ap placed (sym e) ∙ told-mark in
         true≢false (sym (ap (λ (l : List ℕ). eqb (getD l 0 0) 0) f) ∙ no-zero w)
 
   module _ (more : k < marks spacing (length text)) where
-    has : 4 * suc k ≤ length row
+    has : width * suc k ≤ length row
     has = omega (arith, a .room)
 
     -- the next one is compared, and then the others
     turn : let n = marks spacing (length text) - suc k in
         auditSays text row
-        ≡ same (counts (checkpoint row k)) (counts (mark bytes ruler (spacing * k) text))
-        && same (take (4 * n) (drop (4 * suc k) row)) (rows text (suc k) n)
+        ≡ same (counts (checkpoint row k)) (counts (mark reader ruler (spacing * k) text))
+        && same (take (width * n) (drop (width * suc k) row)) (rows text (suc k) n)
     turn =
         let n : ℕ = marks spacing (length text) - suc k in
         let e : marks spacing (length text) - k ≡ suc n = omega arith in
-        let f : 4 * suc n ≡ 4 + 4 * n = omega arith in
-        let g : 4 * k + 4 ≡ 4 * suc k = omega arith in
-        let t : take (4 * suc n) (drop (4 * k) row) ≡ counts (checkpoint row k) ++ take (4 * n) (drop (4 * suc k) row)
-        = rw (f, take-add 4 (4 * n) (drop (4 * k) row), drop-drop 4 (4 * k) row, g)
-        (ap (λ (l : List ℕ). l ++ take (4 * n) (drop (4 * suc k) row)) (sym (checkpoint-counts row k has))) in
-        let q : Place = mark bytes ruler (spacing * k) text in
-        let s : same (take (4 * suc n) (drop (4 * k) row)) (rows text k (suc n))
-        ≡ same (counts (checkpoint row k)) (counts q) && same (take (4 * n) (drop (4 * suc k) row)) (rows text (suc k) n)
+        let f : width * suc n ≡ width + width * n = omega arith in
+        let g : width * k + width ≡ width * suc k = omega arith in
+        let t : take (width * suc n) (drop (width * k) row) ≡ counts (checkpoint row k) ++ take (width * n) (drop (width * suc k) row)
+        = rw (f, take-add width (width * n) (drop (width * k) row), drop-drop width (width * k) row, g)
+        (ap (λ (l : List ℕ). l ++ take (width * n) (drop (width * suc k) row)) (sym (checkpoint-counts row k has))) in
+        let q : Place = mark reader ruler (spacing * k) text in
+        let s : same (take (width * suc n) (drop (width * k) row)) (rows text k (suc n))
+        ≡ same (counts (checkpoint row k)) (counts q) && same (take (width * n) (drop (width * suc k) row)) (rows text (suc k) n)
         = ap (λ (l : List ℕ). same l (rows text k (suc n))) t
-        ∙ same-append (counts (checkpoint row k)) (counts q) (take (4 * n) (drop (4 * suc k) row)) (rows text (suc k) n) refl in
-        a .left ∙ ap (λ (i : ℕ). same (take (4 * i) (drop (4 * k) row)) (rows text k i)) e ∙ s
+        ∙ same-append (counts (checkpoint row k)) (counts q) (take (width * n) (drop (width * suc k) row)) (rows text (suc k) n) refl in
+        a .left ∙ ap (λ (i : ℕ). same (take (width * i) (drop (width * k) row)) (rows text k i)) e ∙ s
 
-    module _ (q : Place) (found : q ≡ mark bytes ruler (spacing * k) text) where
+    module _ (q : Place) (found : q ≡ mark reader ruler (spacing * k) text) where
       pub audited-no : same (counts (checkpoint row k)) (counts q) ≡ false → false ≡ auditSays text row
       audited-no e = rw (turn, ← found, e)
 
@@ -143,7 +142,7 @@ module _ {text row : List ℕ} {k : ℕ} {p : Place} (a : Audited text row k p) 
         within = a .within;
         room = a .room;
         upto = more;
-        place = rw found (mark-place bytes ruler text (spacing * k));
-        before = rw found (omega (arith, mark-le bytes measured text (spacing * k)));
+        place = rw found (mark-place reader ruler text (spacing * k));
+        before = rw found (omega (arith, mark-le reader measured text (spacing * k)));
         left = turn ∙ rw (← found, e);
       }

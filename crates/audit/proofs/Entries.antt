@@ -12,11 +12,11 @@ use native.Mathlib.Omega.{arith}
 use Rattle.division.proofs.Cases.{both}
 use Rattle.place.specs.Lookup.{counts}
 use Rattle.place.specs.declared.Place.{Place}
-use Rattle.checkpoints.specs.Checkpoints.{placeOf, checkpoint}
+use Rattle.checkpoints.specs.Checkpoints.{width, placeOf, checkpoint}
 use Rattle.audit.specs.Audits.{same}
 
 -- four numbers are the counts of a place
-counts-of : (l : List ℕ) → length l ≡ 4 → counts (placeOf l) ≡ l
+counts-of : (l : List ℕ) → length l ≡ width → counts (placeOf l) ≡ l
 counts-of [] h = absurd (omega arith)
 counts-of (a ∷ []) h = absurd (omega arith)
 counts-of (a ∷ b ∷ []) h = absurd (omega arith)
@@ -25,10 +25,10 @@ counts-of (a ∷ b ∷ c ∷ d ∷ []) h = refl
 counts-of (a ∷ b ∷ c ∷ d ∷ e ∷ l) h = absurd (omega arith)
 
 -- and so a checkpoint that the index has loses none of them
-pub checkpoint-counts : (row : List ℕ) (k : ℕ) → 4 * suc k ≤ length row → counts (checkpoint row k) ≡ take 4 (drop (4 * k) row)
+pub checkpoint-counts : (row : List ℕ) (k : ℕ) → width * suc k ≤ length row → counts (checkpoint row k) ≡ take width (drop (width * k) row)
 checkpoint-counts row k h =
-    let l : List ℕ = take 4 (drop (4 * k) row) in
-    counts-of l (length-take-le 4 (drop (4 * k) row) (omega (arith, length-drop (4 * k) row)))
+    let l : List ℕ = take width (drop (width * k) row) in
+    counts-of l (length-take-le width (drop (width * k) row) (omega (arith, length-drop (width * k) row)))
 
 -- ---- lists that are the same
 

@@ -11,7 +11,8 @@ use borrow.Author.Tests.{leb-true, le-leb}
 use Rattle.division.proofs.Cases.{both}
 use Rattle.terms.specs.Limits.{limit}
 use Rattle.checkpoints.specs.Checkpoints.{needed, indexOf}
-use Rattle.index.proofs.Truth.{Indexes, AsPlain, as-plain}
+use Rattle.index.specs.Agreeing.{Indexes, AsPlain}
+use Rattle.index.proofs.Truth.{as-plain}
 use Rattle.audit.specs.Audits.{same, auditSays}
 use Rattle.audit.proofs.Entries.{same-sound, same-refl}
 

@@ -26,10 +26,10 @@ pub fn audit(text: &[u8], row: &[u32]) -> bool
     if Decoder::LIMIT < text.len() {
         return false;
     }
-    let n = text.len() / SPACING + 1;
-    if row.len() < 4 * n {
+    if row.len() < checkpoints::needed(text.len()) {
         return false;
     }
+    let n = checkpoints::marks(text.len());
     let mut p = Place::start();
     let mut k: usize = 0;
     while k < n {

@@ -15,11 +15,10 @@ use Rattle.division.proofs.Dividing.{cut-nil, cut-cons, cut-append, first-size}
 use Rattle.division.proofs.Placing.{last-here, last-from, bytes-mono}
 use Rattle.terms.proofs.Converting.{AllWhole}
 use Rattle.stands.specs.Stands.{later}
-use Rattle.utf8.specs.Bytes.{bytes}
-use Rattle.utf8.proofs.Rows.{bytes-division}
+use Rattle.place.proofs.Reading.{reader-division}
 use Rattle.sums.specs.Edges.{Edge}
 use Rattle.sums.proofs.Cutting.{Cut, cut-edge, first-edge}
-use Rattle.place.specs.Measures.{ruler}
+use Rattle.place.specs.Measures.{ruler, reader}
 use Rattle.place.specs.Lookup.{counts}
 use Rattle.place.specs.declared.Place.{Place}
 use Rattle.place.proofs.Measuring.{measured}
@@ -28,11 +27,11 @@ use Rattle.counts.proofs.Summing.{summed-append, summed-same}
 use Rattle.counts.proofs.Backing.{StepsBack}
 use Rattle.build.proofs.Summing.{summed-is, parts-whole}
 
-module _ (text : List ℕ) (w : AllWhole (cut bytes text)) where
-  pub whole-first : (n : ℕ) → AllWhole (cut bytes (drop n text)) → n < length text → later (getD text n 0) ≡ false
+module _ (text : List ℕ) (w : AllWhole (cut reader text)) where
+  pub whole-first : (n : ℕ) → AllWhole (cut reader (drop n text)) → n < length text → later (getD text n 0) ≡ false
   whole-first n v h = go (drop n text) refl v
     where
-      go : (rest : List ℕ) → drop n text ≡ rest → AllWhole (cut bytes rest) → later (getD text n 0) ≡ false
+      go : (rest : List ℕ) → drop n text ≡ rest → AllWhole (cut reader rest) → later (getD text n 0) ≡ false
       go [] e v = absurd (omega (arith, length-drop n text, ap length e))
       go (x ∷ xs) e v =
           let z : n + 0 ≡ n = omega arith in
@@ -43,10 +42,10 @@ module _ (text : List ℕ) (w : AllWhole (cut bytes text)) where
     pub whole-parted : Cut text b
     whole-parted = cut-edge text w b h e
 
-    cut-at : cut bytes text ≡ cut bytes (take b text) ++ cut bytes (drop b text)
+    cut-at : cut reader text ≡ cut reader (take b text) ++ cut reader (drop b text)
     cut-at =
-        ap (cut bytes) (sym (take-append-drop b text))
-        ∙ cut-append bytes-division (take b text) (drop b text)
+        ap (cut reader) (sym (take-append-drop b text))
+        ∙ cut-append reader-division (take b text) (drop b text)
         ∙ rw (parts-whole (take b text) (whole-parted .front))
 
   module _ (n : ℕ) (h : n ≤ length text) {q p : Place} (s : StepsBack text n q p) where
@@ -57,36 +56,36 @@ module _ (text : List ℕ) (w : AllWhole (cut bytes text)) where
     back-inside = omega (arith, s .order)
 
     -- the segment from there on ends behind byte n
-    next-over : (x : ℕ) (xs : List ℕ) → drop start text ≡ x ∷ xs → n < start + size (first bytes x xs)
+    next-over : (x : ℕ) (xs : List ℕ) → drop start text ≡ x ∷ xs → n < start + size (first reader x xs)
     next-over x xs e =
         let l : length (drop start text) ≡ suc (length xs) = ap length e in
-        let z : size (first bytes x xs) ≡ suc (bytes x xs .more) = first-size bytes-division x xs in
-        under n (start + size (first bytes x xs)) (λ i. i) (λ i.
+        let z : size (first reader x xs) ≡ suc (reader x xs .more) = first-size reader-division x xs in
+        under n (start + size (first reader x xs)) (λ i. i) (λ i.
         under n (length text)
         (λ j.
-        let k : ℕ = start + size (first bytes x xs) in
-        let d : drop k text ≡ drop (bytes x xs .more) xs = sym (drop-drop (size (first bytes x xs)) start text) ∙ rw (e, z) in
-        let v : AllWhole (first bytes x xs ∷ cut bytes (drop (bytes x xs .more) xs))
-        = rw (e, cut-cons bytes x xs) at (whole-parted start back-inside (s .edge) .behind) in
+        let k : ℕ = start + size (first reader x xs) in
+        let d : drop k text ≡ drop (reader x xs .more) xs = sym (drop-drop (size (first reader x xs)) start text) ∙ rw (e, z) in
+        let v : AllWhole (first reader x xs ∷ cut reader (drop (reader x xs .more) xs))
+        = rw (e, cut-cons reader x xs) at (whole-parted start back-inside (s .edge) .behind) in
         let f : later (getD text k 0) ≡ false = whole-first k (rw d (v .1)) (omega arith) in
         absurd (true≢false (sym (s .others k (omega arith) i (omega arith)) ∙ f)))
         (λ j. absurd (omega (arith, s .ended j, length-drop start text))))
 
-    pub back-last : (from : Place) → last (ruler .step) (ruler .bytes) (from .bytes + n) from (cut bytes text) ≡ summed from (take start text)
+    pub back-last : (from : Place) → last (ruler .step) (ruler .bytes) (from .bytes + n) from (cut reader text) ≡ summed from (take start text)
     back-last from =
         let g = summed-is from (take start text) (whole-parted start back-inside (s .edge) .front) in
         let l : length (take start text) ≡ start = length-take-le start text back-inside in
-        let o : foldl (ruler .step) from (cut bytes (take start text)) .bytes ≤ from .bytes + n = rw g (omega (arith, s .order)) in
+        let o : foldl (ruler .step) from (cut reader (take start text)) .bytes ≤ from .bytes + n = rw g (omega (arith, s .order)) in
         ap (last (ruler .step) (ruler .bytes) (from .bytes + n) from) (cut-at start back-inside (s .edge))
-        ∙ last-from (ruler .step) (ruler .bytes) (bytes-mono measured) (from .bytes + n) from (cut bytes (take start text)) (cut bytes (drop start text)) o
+        ∙ last-from (ruler .step) (ruler .bytes) (bytes-mono measured) (from .bytes + n) from (cut reader (take start text)) (cut reader (drop start text)) o
         ∙ rw g (go (drop start text) refl l)
       where
         go : (rest : List ℕ) → drop start text ≡ rest → length (take start text) ≡ start
-            → last (ruler .step) (ruler .bytes) (from .bytes + n) (summed from (take start text)) (cut bytes rest) ≡ summed from (take start text)
+            → last (ruler .step) (ruler .bytes) (from .bytes + n) (summed from (take start text)) (cut reader rest) ≡ summed from (take start text)
         go [] e l = rw cut-nil
         go (x ∷ xs) e l =
-            rw (cut-cons bytes x xs)
-            (last-here (ruler .step) (ruler .bytes) (from .bytes + n) (summed from (take start text)) (first bytes x xs) (cut bytes (drop (bytes x xs .more) xs))
+            rw (cut-cons reader x xs)
+            (last-here (ruler .step) (ruler .bytes) (from .bytes + n) (summed from (take start text)) (first reader x xs) (cut reader (drop (reader x xs .more) xs))
             (omega (arith, next-over x xs e)))
 
     -- it is the place that was stepped back to

@@ -4,14 +4,14 @@ use mathlib.Core.Path.{_≡_, sym, ap}
 use Prim.Native.Nat.{ℕ, _+_}
 use mathlib.Core.Bool.{true, true≢false}
 use mathlib.Core.List.{List, [], _∷_}
-use lib.ListN.{length, getD}
-use lib.Dec.{ltb, eqb}
+use lib.ListN.{length}
+use lib.Dec.{ltb}
 use borrow.Author.Tests.{ltb-false}
 use Rattle.division.proofs.Cases.{split}
-use Rattle.terms.specs.Limits.{limit}
-use Rattle.terms.specs.Told.{refusal}
+use Rattle.terms.specs.Told.{refusal, isGranted}
 use Rattle.terms.specs.declared.Refusal.{Refusal}
 use Rattle.terms.proofs.Telling.{no-zero}
+use Rattle.terms.proofs.Tested.{granted-passed}
 use Rattle.checkpoints.specs.Checkpoints.{needed}
 use Rattle.builder.specs.State.{freshBuilder, sound, buildSays}
 use Rattle.builder.specs.declared.Builder.{Builder}
@@ -23,24 +23,15 @@ use Rattle.build.specs.Steps.{Granted, grown}
 -- ---- a call that is granted has passed them all
 
 module _ (b : Builder) (more : ℕ) (row : List ℕ) where
-  pub says-granted : eqb (getD (buildSays b more (length row)) 0 0) 0 ≡ true → Granted b more row
-  says-granted g = split (sound b)
-      (λ s.
-      split (ltb limit (b .taken + more))
-      (λ o. absurd (true≢false (sym (rw (s, o) at g))))
-      (λ o.
+  pub says-granted : isGranted (buildSays b more (length row)) ≡ true → Granted b more row
+  says-granted g =
+      let p = granted-passed (sound b) (b .taken) more _ g in
       split (ltb (length row) (needed (b .taken + more)))
-      (λ n. absurd (true≢false (sym (rw (s, o, n) at g))))
-      (λ n.
-      record {
-        tests = s;
-        within = ltb-false limit (b .taken + more) o;
-        room = ltb-false (length row) (needed (b .taken + more)) n;
-      })))
-      (λ s. absurd (true≢false (sym (rw s at g))))
+      (λ n. absurd (true≢false (sym (rw n at (p .grants)))))
+      (λ n. record { tests = p .tests; within = p .within; room = ltb-false (length row) (needed (b .taken + more)) n })
 
   pub done-granted : 0 ∷ [] ≡ buildSays b more (length row) → Granted b more row
-  done-granted e = says-granted (ap (λ (l : List ℕ). eqb (getD l 0 0) 0) (sym e))
+  done-granted e = says-granted (ap isGranted (sym e))
 
   pub granted-says : Granted b more row → buildSays b more (length row) ≡ 0 ∷ []
   granted-says g = sym (says-done b more (length row) (g .tests) (g .within) (g .room))

@@ -13,15 +13,15 @@ use Rattle.division.specs.Stream.{State}
 use Rattle.division.specs.Tally.{total, size}
 use Rattle.division.specs.Index.{Built, add}
 use Rattle.division.proofs.Dividing.{cut-nil, cut-cons, takes-all, first-size}
-use Rattle.utf8.specs.Bytes.{bytes}
-use Rattle.utf8.proofs.Rows.{bytes-division, bytes-hold}
+use Rattle.terms.specs.Limits.{mostPending}
+use Rattle.place.proofs.Reading.{reader-division, reader-hold}
 use Rattle.pending.specs.Tail as tail
 use Rattle.pending.proofs.Settling.{settled-inside}
 use Rattle.pending.proofs.Seaming.{seam-pending, seam-over, seam-inside, seam-behind}
-use Rattle.place.specs.Measures.{ruler}
+use Rattle.place.specs.Measures.{ruler, reader}
 use Rattle.place.specs.Lookup.{counts}
 use Rattle.place.specs.declared.Place.{Place}
-use Rattle.checkpoints.specs.Checkpoints.{spacing}
+use Rattle.checkpoints.specs.Checkpoints.{spacing, width}
 use Rattle.builder.specs.State.{left, settled}
 use Rattle.builder.specs.declared.Builder.{Builder}
 use Rattle.builder.proofs.Testing.{Sound, sound-is}
@@ -36,7 +36,7 @@ module _ (b : Builder) (s : Sound b) where
   pub settled-fits : Fits (settled b)
   settled-fits = record { lines = s .lines; points = s .points; units = s .units; within = omega (arith, s .within) }
 
-  pub left-long : length (b .held) ≡ 3 → length (left b) ≡ b .pending
+  pub left-long : length (b .held) ≡ mostPending → length (left b) ≡ b .pending
   left-long t = length-take-le (b .pending) (b .held) (omega (arith, s .tail .few))
 
 -- a row of the same length grants the same
@@ -109,11 +109,11 @@ module _ (b : Builder) (piece seam row : List ℕ) (s : Seams b piece seam row) 
         → streamOf q row′ (drop (taken - b .pending) piece) ≡ joined b row piece
     join-behind {x} {row′} {q} e a =
         let q′ : Place = behind (settled b) taken (getD seam 0 0) in
-        let f : foldl (add ruler counts 4 spacing) (builtOf (settled b) row) (tail.settled seam) ≡ builtOf q′ (marked row (settled b) q′)
+        let f : foldl (add ruler counts width spacing) (builtOf (settled b) row) (tail.settled seam) ≡ builtOf q′ (marked row (settled b) q′)
         = settled-add (settled b) row seam some in
         let m : joined b row piece ≡ streamOf q′ (marked row (settled b) q′) (drop (taken - b .pending) piece)
         = ap (streamed (builtOf (settled b) row)) (seam-behind (left b) piece (passes .tail .begins) some-four)
-        ∙ rw (← s .seam-is, long, foldl-append (add ruler counts 4 spacing) (builtOf (settled b) row) (tail.settled seam), f) in
+        ∙ rw (← s .seam-is, long, foldl-append (add ruler counts width spacing) (builtOf (settled b) row) (tail.settled seam), f) in
         sym (m ∙ rw (a .place-is, a .checkpoints, e))
 
 -- ---- the end: what is pending is one segment
@@ -123,15 +123,15 @@ take-some [] n h k = absurd (omega arith)
 take-some (x ∷ xs) zero h k = absurd (omega arith)
 take-some (x ∷ xs) (suc n) h k = let e : suc n - 1 ≡ n = omega arith in rw e
 
-one-segment : (x : ℕ) (xs : List ℕ) → pending bytes (x ∷ xs) ≡ true
-    → (cut bytes (x ∷ xs) ≡ first bytes x xs ∷ []) × (size (first bytes x xs) ≡ suc (length xs))
+one-segment : (x : ℕ) (xs : List ℕ) → pending reader (x ∷ xs) ≡ true
+    → (cut reader (x ∷ xs) ≡ first reader x xs ∷ []) × (size (first reader x xs) ≡ suc (length xs))
 one-segment x xs p =
-    let m : bytes x xs .more ≡ length xs = takes-all bytes-division 3 bytes-hold x xs (not-true (bytes x xs .sure) p) in (
-      cut-cons bytes x xs ∙ ap (λ (r : List ℕ). first bytes x xs ∷ cut bytes r) (ap (λ (n : ℕ). drop n xs) m ∙ drop-length xs) ∙ rw cut-nil,
-      first-size bytes-division x xs ∙ ap suc m,
+    let m : reader x xs .more ≡ length xs = takes-all reader-division mostPending reader-hold x xs (not-true (reader x xs .sure) p) in (
+      cut-cons reader x xs ∙ ap (λ (r : List ℕ). first reader x xs ∷ cut reader r) (ap (λ (n : ℕ). drop n xs) m ∙ drop-length xs) ∙ rw cut-nil,
+      first-size reader-division x xs ∙ ap suc m,
     )
 
-module _ (b : Builder) (row : List ℕ) (s : Sound b) (three : length (b .held) ≡ 3) where
+module _ (b : Builder) (row : List ℕ) (s : Sound b) (three : length (b .held) ≡ mostPending) where
   pub end-none : b .pending ≡ 0 → sets row 0 (counts (ruler .zeroth)) ≡ ended b row .row
   end-none z =
       let e : left b ≡ [] = rw z in
@@ -154,10 +154,10 @@ module _ (b : Builder) (row : List ℕ) (s : Sound b) (three : length (b .held) 
         let ys : List ℕ = take (b .pending - 1) (drop 1 (b .held)) in
         let t : left b ≡ y ∷ ys = take-some (b .held) (b .pending) (omega (arith, some)) (omega arith) in
         let o = one-segment y ys (rw t at (s .tail .begins)) in
-        let n : size (first bytes y ys) ≡ b .pending = o .1 ∙ sym (ap length t) ∙ left-long b s three in
-        let f : cut bytes (left b) ≡ first bytes y ys ∷ [] = ap (cut bytes) t ∙ o .0 in
-        let k : ended b row ≡ add ruler counts 4 spacing (builtOf (settled b) row₀) (first bytes y ys) = rw (r, f) in
-        let m : add ruler counts 4 spacing (builtOf (settled b) row₀) (first bytes y ys)
+        let n : size (first reader y ys) ≡ b .pending = o .1 ∙ sym (ap length t) ∙ left-long b s three in
+        let f : cut reader (left b) ≡ first reader y ys ∷ [] = ap (cut reader) t ∙ o .0 in
+        let k : ended b row ≡ add ruler counts width spacing (builtOf (settled b) row₀) (first reader y ys) = rw (r, f) in
+        let m : add ruler counts width spacing (builtOf (settled b) row₀) (first reader y ys)
         ≡ builtOf (behind (settled b) (b .pending) y) (marked row₀ (settled b) (behind (settled b) (b .pending) y))
         = add-first (settled b) row₀ y ys ∙ ap (λ (j : ℕ). let v : Place = behind (settled b) j y in builtOf v (marked row₀ (settled b) v)) n in
         a .checkpoints ∙ sym (ap (λ (v : Built Place). v .row) (k ∙ m) ∙ rw (← e))

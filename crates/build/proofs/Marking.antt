@@ -12,13 +12,12 @@ use Rattle.division.specs.Reader.{first}
 use Rattle.division.specs.Index.{marks, add}
 use Rattle.division.specs.Tally.{size}
 use Rattle.division.proofs.Cases.{split, under}
-use Rattle.utf8.specs.Bytes.{bytes}
-use Rattle.place.specs.Measures.{ruler}
+use Rattle.place.specs.Measures.{ruler, reader}
 use Rattle.place.specs.Walk.{unitsBySize, linesByHead}
 use Rattle.place.specs.Lookup.{counts}
 use Rattle.place.specs.declared.Place.{Place}
 use Rattle.place.proofs.Measuring.{units-by-size}
-use Rattle.checkpoints.specs.Checkpoints.{spacing, needed}
+use Rattle.checkpoints.specs.Checkpoints.{spacing, width, needed}
 use Rattle.marking.specs.Marks.{markedAt, markedOnce}
 use Rattle.build.specs.Steps.{Fits, marked, behind, Ahead, builtOf}
 
@@ -27,16 +26,16 @@ use Rattle.build.specs.Steps.{Fits, marked, behind, Ahead, builtOf}
 -- checkpoint k has its place in the row
 pub record Holds (p : Place) (k : ℕ) (row : List ℕ) : Type 0 where
   pub fits : Fits p
-  pub room : 4 * k + 4 ≤ length row
+  pub room : width * k + width ≤ length row
 
-pub held-marked : (p : Place) (k : ℕ) (row : List ℕ) → Holds p k row → markedAt row k p ≡ sets row (4 * k) (counts p)
+pub held-marked : (p : Place) (k : ℕ) (row : List ℕ) → Holds p k row → markedAt row k p ≡ sets row (width * k) (counts p)
 held-marked p k row h =
     let f = h .fits in
     let b : p .bytes % 2 ^ 32 ≡ p .bytes = omega (arith, f .within) in
     let u : p .units % 2 ^ 32 ≡ p .units = omega (arith, f .units, f .within) in
     let c : p .points % 2 ^ 32 ≡ p .points = omega (arith, f .points, f .units, f .within) in
     let l : p .lines % 2 ^ 32 ≡ p .lines = omega (arith, f .lines, f .points, f .units, f .within) in
-    rw (lt-ltb k (length row / 4) (omega (arith, h .room)), b, u, c, l)
+    rw (lt-ltb k (length row / width) (omega (arith, h .room)), b, u, c, l)
 
 -- ---- the checkpoint between two places: there is none, or the second place lies at it, or it lies behind it
 
@@ -56,13 +55,13 @@ module _ (p q : Place) (row : List ℕ) (h : Between p q row) where
   one : spacing * (p .bytes / spacing + 1) ≤ q .bytes → marks spacing (q .bytes) - marks spacing (p .bytes) ≡ 1
   one l = omega (arith, h .near)
 
-  mark-at : q .bytes ≡ spacing * (p .bytes / spacing + 1) → sets row (4 * (p .bytes / spacing + 1)) (counts q) ≡ marked row p q
+  mark-at : q .bytes ≡ spacing * (p .bytes / spacing + 1) → sets row (width * (p .bytes / spacing + 1)) (counts q) ≡ marked row p q
   mark-at e =
       let l : q .bytes ≤ spacing * marks spacing (p .bytes) = omega arith in
       let s : p .bytes / spacing + 1 ≡ marks spacing (p .bytes) = omega arith in
       rw (one (omega arith), le-leb (q .bytes) (spacing * marks spacing (p .bytes)) l, s)
 
-  mark-over : spacing * (p .bytes / spacing + 1) < q .bytes → sets row (4 * (p .bytes / spacing + 1)) (counts p) ≡ marked row p q
+  mark-over : spacing * (p .bytes / spacing + 1) < q .bytes → sets row (width * (p .bytes / spacing + 1)) (counts p) ≡ marked row p q
   mark-over o =
       let l : spacing * marks spacing (p .bytes) < q .bytes = omega arith in
       let s : p .bytes / spacing + 1 ≡ marks spacing (p .bytes) = omega arith in
@@ -74,7 +73,7 @@ module _ (p q : Place) (row : List ℕ) (h : Between p q row) where
       under (q .bytes / spacing) k
       (λ i. rw (lt-ltb (q .bytes / spacing) k i) (mark-none (omega arith)))
       (λ i.
-      let r : 4 * k + 4 ≤ length row = omega (arith, h .room) in
+      let r : width * k + width ≤ length row = omega (arith, h .room) in
       split (eqb (q .bytes) (spacing * k))
       (λ e.
       rw (le-ltb (q .bytes / spacing) k i, e)
@@ -114,9 +113,9 @@ module _ (p : Place) (n x : ℕ) (row : List ℕ) (a : Ahead p n row) where
 
 -- it is what the builder's action of that segment gives
 pub add-first : (p : Place) (row : List ℕ) (x : ℕ) (xs : List ℕ)
-    → let q : Place = behind p (size (first bytes x xs)) x in
-    add ruler counts 4 spacing (builtOf p row) (first bytes x xs) ≡ builtOf q (marked row p q)
+    → let q : Place = behind p (size (first reader x xs)) x in
+    add ruler counts width spacing (builtOf p row) (first reader x xs) ≡ builtOf q (marked row p q)
 add-first p row x xs =
-    let s = first bytes x xs in
+    let s = first reader x xs in
     let e : ruler .step p s ≡ behind p (size s) x = rw (units-by-size x xs) in
     ap (λ (q : Place). builtOf q (marked row p q)) e

@@ -17,16 +17,15 @@ use Rattle.division.proofs.Tallying.{sets-append}
 use Rattle.division.proofs.Rows.{tab-length, tab-append, written-fixed}
 use Rattle.terms.proofs.Converting.{AllWhole, none-whole}
 use Rattle.terms.proofs.Walking.{part-is}
-use Rattle.utf8.specs.Bytes.{bytes}
-use Rattle.utf8.proofs.Rows.{bytes-division}
+use Rattle.place.proofs.Reading.{reader-division}
 use Rattle.sums.specs.Counts.{startOf, fourOf, endOf}
 use Rattle.sums.proofs.Counting.{start-few, four-few, end-few, total-few}
-use Rattle.place.specs.Measures.{ruler}
+use Rattle.place.specs.Measures.{ruler, reader}
 use Rattle.place.specs.Lookup.{counts}
 use Rattle.place.specs.Walk.{wrapped}
 use Rattle.place.specs.declared.Place.{Place}
 use Rattle.place.proofs.Measuring.{measured}
-use Rattle.checkpoints.specs.Checkpoints.{spacing}
+use Rattle.checkpoints.specs.Checkpoints.{spacing, width}
 use Rattle.counts.specs.Summed.{summed, back}
 use Rattle.counts.proofs.Summing.{Roomy, summed-plain, summed-none, summed-append}
 use Rattle.counts.proofs.Backing.{Covers, StepsBack, steps-back}
@@ -39,13 +38,13 @@ use Rattle.build.proofs.Bounding.{whole-first, whole-parted, back-insid
 
 -- checkpoint k, and n of them from k on
 abbrev checkpoint : Place → List ℕ → ℕ → Place
-checkpoint from text k = last (ruler .step) (ruler .bytes) (spacing * k) from (cut bytes text)
+checkpoint from text k = last (ruler .step) (ruler .bytes) (spacing * k) from (cut reader text)
 
 abbrev checkpoints : Place → List ℕ → ℕ → ℕ → List ℕ
 checkpoints from text k n = written counts (tab k n (checkpoint from text))
 
-checkpoints-long : (from : Place) (text : List ℕ) (k n : ℕ) → length (checkpoints from text k n) ≡ 4 * n
-checkpoints-long from text k n = written-fixed counts 4 (λ p. refl) (tab k n (checkpoint from text)) ∙ rw tab-length
+checkpoints-long : (from : Place) (text : List ℕ) (k n : ℕ) → length (checkpoints from text k n) ≡ width * n
+checkpoints-long from text k n = written-fixed counts width (λ p. refl) (tab k n (checkpoint from text)) ∙ rw tab-length
 
 checkpoints-next : (from : Place) (text : List ℕ) (k n : ℕ)
     → checkpoints from text k (n + 1) ≡ checkpoints from text k n ++ counts (checkpoint from text (k + n))
@@ -57,11 +56,11 @@ pub record Passed (text : List ℕ) (from : Place) (row₀ row : List ℕ) (q : 
   pub inside : at ≤ length text
   pub place-is : q ≡ summed from (take at text)
   pub bytes-are : q .bytes ≡ from .bytes + at
-  pub row-is : row ≡ sets row₀ (4 * marks spacing (from .bytes)) (checkpoints from text (marks spacing (from .bytes)) (marks spacing (q .bytes) - marks spacing (from .bytes)))
+  pub row-is : row ≡ sets row₀ (width * marks spacing (from .bytes)) (checkpoints from text (marks spacing (from .bytes)) (marks spacing (q .bytes) - marks spacing (from .bytes)))
 
 module _ (text : List ℕ) (from : Place) (row₀ : List ℕ) (r : Runs from text row₀) where
-  wholes : AllWhole (cut bytes text)
-  wholes = none-whole 0 (cut bytes text) (r .whole)
+  wholes : AllWhole (cut reader text)
+  wholes = none-whole 0 (cut reader text) (r .whole)
 
   pub passed-start : Passed text from row₀ row₀ from 0
   passed-start =
@@ -140,13 +139,13 @@ module _ (text : List ℕ) (from : Place) (row₀ : List ℕ) (r : Runs from tex
             let j : ℕ = v .bytes / spacing in
             let a : marks spacing (v .bytes) - old ≡ n + 1 = omega (arith, there-bytes, d .bytes-are) in
             let k : old + n ≡ j = omega (arith, there-bytes, d .bytes-are) in
-            let i : 4 * old + length (checkpoints from text old n) ≡ 4 * j = omega (arith, checkpoints-long from text old n) in
+            let i : width * old + length (checkpoints from text old n) ≡ width * j = omega (arith, checkpoints-long from text old n) in
             let c : from .bytes + end ≡ spacing * j = omega (arith, there-bytes, d .bytes-are) in
             let g : p ≡ checkpoint from text j = back-place text wholes end h stepped from there-is ∙ sym (rw c at (back-last text wholes end h stepped from)) in
-            let l : sets row₀ (4 * old) (checkpoints from text old (n + 1))
-            ≡ sets (sets row₀ (4 * old) (checkpoints from text old n)) (4 * old + length (checkpoints from text old n))
+            let l : sets row₀ (width * old) (checkpoints from text old (n + 1))
+            ≡ sets (sets row₀ (width * old) (checkpoints from text old n)) (width * old + length (checkpoints from text old n))
             (counts (checkpoint from text (old + n)))
-            = ap (sets row₀ (4 * old)) (checkpoints-next from text old n) ∙ sets-append row₀ (4 * old) (checkpoints from text old n) _ in
+            = ap (sets row₀ (width * old)) (checkpoints-next from text old n) ∙ sets-append row₀ (width * old) (checkpoints from text old n) _ in
             record {
               inside = h;
               place-is = there-is;
@@ -162,15 +161,15 @@ module _ (text : List ℕ) (from : Place) (row₀ : List ℕ) (r : Runs from tex
         let t : take m (drop at text) ≡ drop at text = part-is text at in
         let k : at + m ≡ length text = omega (arith, d .inside) in
         let s : v ≡ summed from text = e ∙ ap (λ (l : List ℕ). wrapped (summed q l)) (sym t) ∙ summed-on m (omega arith) ∙ rw (k, take-length text) in
-        let g : foldl (ruler .step) from (cut bytes text) ≡ v = summed-is from text wholes ∙ sym s in
+        let g : foldl (ruler .step) from (cut reader text) ≡ v = summed-is from text wholes ∙ sym s in
         let b : v .bytes ≡ from .bytes + length text = ap (λ (p : Place). p .bytes) s in
         let n : marks spacing (v .bytes) ≡ marks spacing (q .bytes) = omega (arith, d .bytes-are) in
-        let f : foldl (add ruler counts 4 spacing) (builtOf from row₀) (cut bytes text) ≡ builtOf v row
-        = build-foldl measured counts 4 spacing (omega arith) (λ p. refl) (builtOf from row₀) (cut bytes text) ∙ rw (g, n, ← d .row-is) in
+        let f : foldl (add ruler counts width spacing) (builtOf from row₀) (cut reader text) ≡ builtOf v row
+        = build-foldl measured counts width spacing (omega arith) (λ p. refl) (builtOf from row₀) (cut reader text) ∙ rw (g, n, ← d .row-is) in
         record {
           inside = omega arith;
           bytes-are = b;
           fits = rw s (summed-fits from text wholes (r .walks .fits) (r .walks .within));
           long = passed-long;
-          same = rw (parts-whole text wholes, f, drop-length text) (sym (after-nil bytes-division (add ruler counts 4 spacing) (builtOf v row)));
+          same = rw (parts-whole text wholes, f, drop-length text) (sym (after-nil reader-division (add ruler counts width spacing) (builtOf v row)));
         }

@@ -12,15 +12,14 @@ use Rattle.division.specs.Index.{Built, add}
 use Rattle.division.proofs.Streaming.{feed-after, after-nil}
 use Rattle.terms.proofs.Converting.{whole-none}
 use Rattle.terms.proofs.Walking.{part-is}
-use Rattle.utf8.specs.Bytes.{bytes}
 use Rattle.strict_utf8.specs.Run.{wholeRun}
-use Rattle.utf8.proofs.Rows.{bytes-division}
+use Rattle.place.proofs.Reading.{reader-division}
 use Rattle.strict_utf8.proofs.Running.{Run}
 use Rattle.strict_utf8.proofs.Fitting.{run-at}
-use Rattle.place.specs.Measures.{ruler}
+use Rattle.place.specs.Measures.{ruler, reader}
 use Rattle.place.specs.Lookup.{counts}
 use Rattle.place.specs.declared.Place.{Place}
-use Rattle.checkpoints.specs.Checkpoints.{spacing}
+use Rattle.checkpoints.specs.Checkpoints.{spacing, width}
 use Rattle.build.specs.Steps.{builtOf, streamOf, Walks, Walked}
 use Rattle.build.specs.Runs.{Runs}
 use Rattle.build.proofs.Walking.{walked-on}
@@ -29,9 +28,9 @@ use Rattle.build.proofs.Walking.{walked-on}
 walked-part : (rest : List ℕ) (n : ℕ) → n ≤ length rest → {p q : Place} {row row′ : List ℕ}
     → Walked (take n rest) p row row′ q (length (take n rest)) → Walked rest p row row′ q n
 walked-part rest n h {p} {q} {row} {row′} d =
-    let act : Built Place → _ → Built Place = add ruler counts 4 spacing in
+    let act : Built Place → _ → Built Place = add ruler counts width spacing in
     let l : length (take n rest) ≡ n = length-take-le n rest h in
-    let e : streamOf p row (take n rest) ≡ record { left = []; kept = builtOf q row′ } = d .same ∙ rw (drop-length (take n rest)) (after-nil bytes-division act (builtOf q row′)) in
+    let e : streamOf p row (take n rest) ≡ record { left = []; kept = builtOf q row′ } = d .same ∙ rw (drop-length (take n rest)) (after-nil reader-division act (builtOf q row′)) in
     record {
       inside = h;
       bytes-are = d .bytes-are ∙ rw l;
@@ -39,8 +38,8 @@ walked-part rest n h {p} {q} {row} {row′} d =
       long = d .long;
       same =
           ap (λ (t : List ℕ). streamOf p row t) (sym (take-append-drop n rest))
-          ∙ sym (feed-after bytes-division act (builtOf p row) (take n rest) (drop n rest))
-          ∙ ap (λ (s : State (Built Place)). feed bytes act s (drop n rest)) e;
+          ∙ sym (feed-after reader-division act (builtOf p row) (take n rest) (drop n rest))
+          ∙ ap (λ (s : State (Built Place)). feed reader act s (drop n rest)) e;
     }
 
 module _ (text : List ℕ) (from : Place) (row₀ : List ℕ) (w : Walks from text row₀) {row : List ℕ} {p : Place} {at : ℕ}
@@ -63,7 +62,7 @@ module _ (text : List ℕ) (from : Place) (row₀ : List ℕ) (w : Walks from te
           within = rw l (omega (arith, run-inside, d .bytes-are, w .within));
           room = rw l (omega (arith, run-inside, d .bytes-are, d .long, w .room));
         };
-        whole = whole-none 0 (cut bytes (take n (drop at text))) (there .all);
+        whole = whole-none 0 (cut reader (take n (drop at text))) (there .all);
       })
 
   pub run-walked : {row′ : List ℕ} {q : Place}

@@ -14,11 +14,10 @@ use Rattle.division.proofs.Cases.{split}
 use Rattle.division.proofs.Dividing.{cut-nil, cut-cons, cut-size, parts-nil, parts-sure, by-segments}
 use Rattle.terms.specs.Limits.{limit}
 use Rattle.terms.proofs.Converting.{AllWhole}
-use Rattle.utf8.specs.Bytes.{bytes}
 use Rattle.utf8.proofs.Rows.{whole-sure}
 use Rattle.sums.specs.Counts.{startOf, fourOf}
 use Rattle.sums.proofs.Wholes.{fourBySize, by-wholes, ends-few}
-use Rattle.place.specs.Measures.{place, unitsOf, linesOf, ruler}
+use Rattle.place.specs.Measures.{place, unitsOf, linesOf, ruler, reader}
 use Rattle.place.specs.Walk.{unitsBySize}
 use Rattle.place.specs.declared.Place.{Place}
 use Rattle.place.proofs.Measuring.{units-by-size}
@@ -48,20 +47,20 @@ place-totals p (s ∷ ss) =
 units-four : (n : ℕ) → unitsBySize n ≡ 1 + fourBySize n
 units-four n = split (eqb n 4) (λ e. rw e) (λ e. rw e)
 
-units-are : (text : List ℕ) → total unitsOf (cut bytes text) ≡ total (λ s. 1) (cut bytes text) + total (λ s. fourBySize (size s)) (cut bytes text)
-units-are = by-segments bytes
-    (λ (text : List ℕ). total unitsOf (cut bytes text) ≡ total (λ s. 1) (cut bytes text) + total (λ s. fourBySize (size s)) (cut bytes text))
+units-are : (text : List ℕ) → total unitsOf (cut reader text) ≡ total (λ s. 1) (cut reader text) + total (λ s. fourBySize (size s)) (cut reader text)
+units-are = by-segments reader
+    (λ (text : List ℕ). total unitsOf (cut reader text) ≡ total (λ s. 1) (cut reader text) + total (λ s. fourBySize (size s)) (cut reader text))
     (rw cut-nil)
-    (λ x xs ih. rw (cut-cons bytes x xs) (omega (arith, ih, units-by-size x xs, units-four (size (first bytes x xs)))))
+    (λ x xs ih. rw (cut-cons reader x xs) (omega (arith, ih, units-by-size x xs, units-four (size (first reader x xs)))))
 
-pub summed-is : (p : Place) (text : List ℕ) → AllWhole (cut bytes text) → foldl (ruler .step) p (cut bytes text) ≡ summed p text
+pub summed-is : (p : Place) (text : List ℕ) → AllWhole (cut reader text) → foldl (ruler .step) p (cut reader text) ≡ summed p text
 summed-is p text w =
     let s = by-wholes text w in
-    let u : p .units + total unitsOf (cut bytes text) ≡ p .units + total startOf text + total fourOf text
+    let u : p .units + total unitsOf (cut reader text) ≡ p .units + total startOf text + total fourOf text
     = omega (arith, units-are text, s .starts-are, s .fours-are) in
-    place-totals p (cut bytes text) ∙ rw (u, cut-size bytes text, ← s .starts-are, ← s .ends-are)
+    place-totals p (cut reader text) ∙ rw (u, cut-size reader text, ← s .starts-are, ← s .ends-are)
 
-pub summed-fits : (p : Place) (text : List ℕ) → AllWhole (cut bytes text) → Fits p → p .bytes + length text ≤ limit → Fits (summed p text)
+pub summed-fits : (p : Place) (text : List ℕ) → AllWhole (cut reader text) → Fits p → p .bytes + length text ≤ limit → Fits (summed p text)
 summed-fits p text w f h =
     let s = by-wholes text w in
     record {
@@ -73,10 +72,10 @@ summed-fits p text w f h =
 
 -- ---- the stream behind them
 
-pub parts-whole : (text : List ℕ) → AllWhole (cut bytes text) → parts bytes text ≡ record { done = cut bytes text; left = [] }
-parts-whole = by-segments bytes (λ (text : List ℕ). AllWhole (cut bytes text) → parts bytes text ≡ record { done = cut bytes text; left = [] })
-    (λ w. parts-nil bytes ∙ rw cut-nil)
+pub parts-whole : (text : List ℕ) → AllWhole (cut reader text) → parts reader text ≡ record { done = cut reader text; left = [] }
+parts-whole = by-segments reader (λ (text : List ℕ). AllWhole (cut reader text) → parts reader text ≡ record { done = cut reader text; left = [] })
+    (λ w. parts-nil reader ∙ rw cut-nil)
     (λ x xs ih w.
-    let v : AllWhole (first bytes x xs ∷ cut bytes (rest bytes x xs)) = rw (cut-cons bytes x xs) at w in
-    let t : isDamage (bytes x xs .tag) ≡ false = rw (v .0) in
-    parts-sure bytes x xs (whole-sure x xs t) ∙ rw (ih (v .1), cut-cons bytes x xs))
+    let v : AllWhole (first reader x xs ∷ cut reader (rest reader x xs)) = rw (cut-cons reader x xs) at w in
+    let t : isDamage (reader x xs .tag) ≡ false = rw (v .0) in
+    parts-sure reader x xs (whole-sure x xs t) ∙ rw (ih (v .1), cut-cons reader x xs))

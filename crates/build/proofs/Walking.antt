@@ -12,13 +12,13 @@ use Rattle.division.specs.Tally.{total, size}
 use Rattle.division.specs.Table.{Kind}
 use Rattle.division.specs.Index.{Built, add}
 use Rattle.division.proofs.Dividing.{first-size}
-use Rattle.utf8.proofs.Rows.{bytes-division, bytes-top}
+use Rattle.place.proofs.Reading.{reader-division, reader-top}
 use Rattle.pending.specs.Tail.{settled}
 use Rattle.pending.proofs.Settling.{settled-parts, settled-inside, settled-none, settled-some}
-use Rattle.place.specs.Measures.{ruler}
+use Rattle.place.specs.Measures.{ruler, longest}
 use Rattle.place.specs.Lookup.{counts}
 use Rattle.place.specs.declared.Place.{Place}
-use Rattle.checkpoints.specs.Checkpoints.{spacing}
+use Rattle.checkpoints.specs.Checkpoints.{spacing, width}
 use Rattle.builder.specs.declared.Builder.{Builder}
 use Rattle.build.specs.Building.{closed}
 use Rattle.build.specs.Steps.{marked, behind, Ahead, Advances, builtOf, streamOf, Walks, Walked, keeping, Closes, Stretched}
@@ -26,22 +26,22 @@ use Rattle.build.proofs.Marking.{behind-fits, add-first}
 
 -- what parts of a text leave behind
 abbrev pub streamed : Built Place → Parts Kind → State (Built Place)
-streamed m p = record { left = p .left; kept = foldl (add ruler counts 4 spacing) m (p .done) }
+streamed m p = record { left = p .left; kept = foldl (add ruler counts width spacing) m (p .done) }
 
 -- ---- the settled segment that stands first in a text
 
-pub settled-few : (text : List ℕ) → (total size (settled text) ≡ 0 → ⊥) → total size (settled text) ≤ 4
+pub settled-few : (text : List ℕ) → (total size (settled text) ≡ 0 → ⊥) → total size (settled text) ≤ longest
 settled-few text z =
     let o = settled-some text z in
-    omega (arith, o .size-is, first-size bytes-division (o .head) (o .tail), bytes-top (o .head) (o .tail))
+    omega (arith, o .size-is, first-size reader-division (o .head) (o .tail), reader-top (o .head) (o .tail))
 
 pub settled-add : (p : Place) (row text : List ℕ) → (total size (settled text) ≡ 0 → ⊥)
     → let q : Place = behind p (total size (settled text)) (getD text 0 0) in
-    foldl (add ruler counts 4 spacing) (builtOf p row) (settled text) ≡ builtOf q (marked row p q)
+    foldl (add ruler counts width spacing) (builtOf p row) (settled text) ≡ builtOf q (marked row p q)
 settled-add p row text z =
     let o = settled-some text z in
     let x : o .head ≡ getD text 0 0 = ap (λ (t : List ℕ). getD t 0 0) (sym (o .text-is)) in
-    ap (foldl (add ruler counts 4 spacing) (builtOf p row)) (o .settled-is)
+    ap (foldl (add ruler counts width spacing) (builtOf p row)) (o .settled-is)
     ∙ add-first p row (o .head) (o .tail)
     ∙ ap (λ (n : ℕ). let q : Place = behind p n (o .head) in builtOf q (marked row p q)) (sym (o .size-is))
     ∙ ap (λ (h : ℕ). let q : Place = behind p (total size (settled text)) h in builtOf q (marked row p q)) x
@@ -52,7 +52,7 @@ pub stream-next : (p : Place) (row text : List ℕ) → (total size (settled tex
     streamOf p row text ≡ streamOf q (marked row p q) (drop (total size (settled text)) text)
 stream-next p row text z =
     ap (streamed (builtOf p row)) (settled-parts text)
-    ∙ rw (foldl-append (add ruler counts 4 spacing) (builtOf p row) (settled text), settled-add p row text z)
+    ∙ rw (foldl-append (add ruler counts width spacing) (builtOf p row) (settled text), settled-add p row text z)
 
 pub stream-end : (p : Place) (row text : List ℕ) → total size (settled text) ≡ 0 → streamOf p row text ≡ record { left = text; kept = builtOf p row }
 stream-end p row text z = ap (streamed (builtOf p row)) (settled-none text z .1)

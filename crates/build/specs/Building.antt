@@ -8,25 +8,24 @@ use Rattle.division.specs.Stream.{State}
 use Rattle.division.specs.Stream as stream
 use Rattle.division.specs.Index.{Built, add, begun}
 use Rattle.terms.specs.Told.{ifGranted}
-use Rattle.utf8.specs.Bytes.{bytes}
 use Rattle.utf8.specs.Pending.{padded}
-use Rattle.place.specs.Measures.{ruler}
+use Rattle.place.specs.Measures.{ruler, reader}
 use Rattle.place.specs.Lookup.{counts}
 use Rattle.place.specs.declared.Place.{Place}
-use Rattle.checkpoints.specs.Checkpoints.{spacing}
+use Rattle.checkpoints.specs.Checkpoints.{spacing, width}
 use Rattle.builder.specs.State.{freshBuilder, left, settled, building, buildSays}
 use Rattle.builder.specs.declared.Builder.{Builder}
 use Rattle.builder.specs.declared.Built as the-built
 
 -- the state as a stream's: checkpoint 0 is written by every call
 abbrev pub opened : Builder → List ℕ → State (Built Place)
-opened b row = record { left = left b; kept = record { place = settled b; row = begun ruler counts 4 spacing row .row } }
+opened b row = record { left = left b; kept = record { place = settled b; row = begun ruler counts width spacing row .row } }
 
 abbrev pub fed : Builder → List ℕ → List ℕ → State (Built Place)
-fed b piece row = stream.feed bytes (add ruler counts 4 spacing) (opened b row) piece
+fed b piece row = stream.feed reader (add ruler counts width spacing) (opened b row) piece
 
 abbrev pub ended : Builder → List ℕ → Built Place
-ended b row = stream.finish bytes (add ruler counts 4 spacing) (opened b row)
+ended b row = stream.finish reader (add ruler counts width spacing) (opened b row)
 
 abbrev pub closed : ℕ → State (Built Place) → Builder
 closed taken s = record {

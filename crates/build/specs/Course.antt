@@ -1,59 +1,76 @@
--- A text that one caller feeds in pieces: the calls one after another, by what they promise. A refused call is not counted.
+-- A text that one caller feeds to the builder in pieces: the calls one after another, by what they promise, and what they give.
 -- No contract cites these; the theorems about many calls do.
 -- Assumes nothing.
 use mathlib.Core.Path.{_≡_}
 use Prim.Native.Nat.{ℕ, _+_}
 use mathlib.Core.Bool.{true}
-use mathlib.Core.List.{List, [], _∷_, _++_, foldl}
-use lib.ListN.{length, take, drop}
+use mathlib.Core.List.{List, foldl}
+use lib.ListN.{length, drop}
 use lib.Seq.{sets}
 use Rattle.division.specs.Reader.{parts}
 use Rattle.division.specs.Stream.{join}
+use Rattle.division.specs.Course.{Calls, Course, course}
 use Rattle.division.specs.Index.{begun, build}
-use Rattle.terms.specs.Told.{ifGranted}
-use Rattle.utf8.specs.Bytes.{bytes}
-use Rattle.place.specs.Measures.{ruler}
+use Rattle.terms.specs.Told.{isGranted}
+use Rattle.place.specs.Measures.{ruler, reader}
 use Rattle.place.specs.Lookup.{counts}
-use Rattle.checkpoints.specs.Checkpoints.{spacing, needed, indexOf}
+use Rattle.checkpoints.specs.Checkpoints.{spacing, width, needed, indexOf}
+use Rattle.index.specs.Agreeing.{Indexes, AsPlain}
 use Rattle.builder.specs.State.{freshBuilder, left, settled, sound, building, buildSays}
 use Rattle.builder.specs.declared.Builder.{Builder}
 use Rattle.builder.specs.declared.Built as the-built
-use Rattle.build.specs.Building.{fed, closed}
+use Rattle.build.specs.Building.{fed, closed, Finishes}
 
--- so far: the state, the row that nobody else writes, and the pieces that were taken
-pub record Course : Type 0 where
+-- what the caller has: the state, and the row that nobody else writes
+pub record Caller : Type 0 where
   pub state : Builder
   pub row : List ℕ
-  pub pieces : List (List ℕ)
 
-abbrev pub started : List ℕ → Course
-started row = record { state = freshBuilder; row = row; pieces = [] }
+abbrev pub starting : List ℕ → Caller
+starting row = record { state = freshBuilder; row = row }
 
-abbrev pub called : Course → List ℕ → Course
-called r piece =
-    let s = fed (r .state) piece (r .row) in
-    ifGranted (buildSays (r .state) (length piece) (length (r .row)))
-    (record { state = closed (r .state .taken + length piece) s; row = s .kept .row; pieces = r .pieces ++ piece ∷ [] })
-    r
+-- A FEED of a piece, by what it promises
+abbrev pub feedOf : Calls Caller (List ℕ)
+feedOf = record {
+  grants = λ h piece. isGranted (buildSays (h .state) (length piece) (length (h .row)));
+  piece = λ h piece. piece;
+  goes = λ h piece.
+      let s = fed (h .state) piece (h .row) in
+      record { state = closed (h .state .taken + length piece) s; row = s .kept .row };
+}
 
 -- THE COURSE OF SUCH CALLS from the fresh state, over a row that held these numbers
-abbrev pub course : List ℕ → List (List ℕ) → Course
-course row = foldl called (started row)
+abbrev pub fedAll : List ℕ → List (List ℕ) → Course Caller
+fedAll row = course feedOf (starting row)
 
--- WHAT HOLDS AFTER EVERY CALL, each as defined from the pieces that were taken; checkpoint 0 may be written yet
-pub record Holds (row : List ℕ) (r : Course) : Type 0 where
-  pub tests : sound (r .state) ≡ true
-  pub taken : r .state .taken ≡ length (join (r .pieces))
-  pub pending : left (r .state) ≡ parts bytes (join (r .pieces)) .left
-  pub place : settled (r .state) ≡ foldl (ruler .step) (ruler .zeroth) (parts bytes (join (r .pieces)) .done)
-  pub checkpoints : begun ruler counts 4 spacing (r .row) .row
-      ≡ build ruler counts 4 spacing (begun ruler counts 4 spacing row) (parts bytes (join (r .pieces)) .done) .row
+-- WHAT HOLDS AFTER EVERY CALL, each as defined from the text that was taken; checkpoint 0 may be written yet
+pub record Holds (row text : List ℕ) (h : Caller) : Type 0 where
+  pub tests : sound (h .state) ≡ true
+  pub taken : h .state .taken ≡ length text
+  pub pending : left (h .state) ≡ parts reader text .left
+  pub place : settled (h .state) ≡ foldl (ruler .step) (ruler .zeroth) (parts reader text .done)
+  pub checkpoints : begun ruler counts width spacing (h .row) .row
+      ≡ build ruler counts width spacing (begun ruler counts width spacing row) (parts reader text .done) .row
 
--- WHAT FINISH THEN GIVES where it is granted: the row's first numbers are the index of the joined text, whatever they were
--- before, and the later ones are untouched
-pub record Ends (row : List ℕ) (text row′ : List ℕ) (q : the-built.Built) : Type 0 where
-  pub answer : building (q .answer) ≡ 0 ∷ []
+-- WHAT FINISH THEN GIVES: the row's first numbers are the index of the text, whatever they were before, the later ones are
+-- untouched, and the state is fresh
+pub record Ends (row text row′ : List ℕ) (q : the-built.Built) : Type 0 where
   pub written : row′ ≡ sets row 0 (indexOf text)
-  pub index : take (needed (length text)) row′ ≡ indexOf text
+  pub index : Indexes row′ text
   pub others : drop (needed (length text)) row′ ≡ drop (needed (length text)) row
   pub state : q .state ≡ freshBuilder
+
+-- ANY CUTTING BUILDS THE SAME INDEX: fed in any pieces, with refused calls between them, and finished
+abbrev pub BuiltAsWhole : Type 0
+BuiltAsWhole =
+    (row : List ℕ) (pieces : List (List ℕ)) (row′ : List ℕ) (q : the-built.Built)
+    → let r = fedAll row pieces in
+    Finishes (r .caller .state) (r .caller .row) row′ q → isGranted (building (q .answer)) ≡ true → Ends row (join (r .pieces)) row′ q
+
+-- THE THIRD DEMAND: an index that is built of a text in any pieces, with refused calls between them, in a buffer that held
+-- anything, and finished, makes each of the four lookups answer as the plain one
+abbrev pub BuiltAsPlain : Type 0
+BuiltAsPlain =
+    (row : List ℕ) (pieces : List (List ℕ)) (row′ : List ℕ) (q : the-built.Built)
+    → let r = fedAll row pieces in
+    Finishes (r .caller .state) (r .caller .row) row′ q → isGranted (building (q .answer)) ≡ true → AsPlain row′ (join (r .pieces))

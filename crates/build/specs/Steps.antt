@@ -11,14 +11,13 @@ use Rattle.division.specs.Stream.{State}
 use Rattle.division.specs.Stream as stream
 use Rattle.division.specs.Tally.{written, total, size}
 use Rattle.division.specs.Index.{Built, tab, marks, add}
-use Rattle.terms.specs.Limits.{limit}
-use Rattle.utf8.specs.Bytes.{bytes}
+use Rattle.terms.specs.Limits.{limit, mostPending}
 use Rattle.pending.specs.Tail.{settled as settledFirst, four}
-use Rattle.place.specs.Measures.{place, ruler}
+use Rattle.place.specs.Measures.{place, ruler, reader, longest}
 use Rattle.place.specs.Walk.{unitsBySize, linesByHead}
 use Rattle.place.specs.Lookup.{counts}
 use Rattle.place.specs.declared.Place.{Place}
-use Rattle.checkpoints.specs.Checkpoints.{spacing, needed}
+use Rattle.checkpoints.specs.Checkpoints.{spacing, width, needed}
 use Rattle.builder.specs.State.{left, settled, sound}
 use Rattle.builder.specs.declared.Builder.{Builder}
 use Rattle.build.specs.Building.{fed, closed}
@@ -40,7 +39,7 @@ passed p q =
     tab old (new - old) (λ k. cond (leb (q .bytes) (spacing * k)) q p)
 
 abbrev pub marked : List ℕ → Place → Place → List ℕ
-marked row p q = sets row (4 * marks spacing (p .bytes)) (written counts (passed p q))
+marked row p q = sets row (width * marks spacing (p .bytes)) (written counts (passed p q))
 
 -- the place behind a segment of so many bytes that begins with this one
 abbrev pub behind : Place → ℕ → ℕ → Place
@@ -49,7 +48,7 @@ behind p size head = place (p .bytes + size) (p .units + unitsBySize size) (p .p
 pub record Ahead (p : Place) (size : ℕ) (row : List ℕ) : Type 0 where
   pub fits : Fits p
   pub some : 0 < size
-  pub few : size ≤ 4
+  pub few : size ≤ longest
   pub within : p .bytes + size ≤ limit
   pub room : needed (p .bytes + size) ≤ length row
 
@@ -64,10 +63,10 @@ builtOf p row = record { place = p; row = row }
 
 -- the stream behind a text that is given from a place on
 abbrev pub streamOf : Place → List ℕ → List ℕ → State (Built Place)
-streamOf from row text = stream.after bytes (add ruler counts 4 spacing) (builtOf from row) text
+streamOf from row text = stream.after reader (add ruler counts width spacing) (builtOf from row) text
 
 abbrev pub joined : Builder → List ℕ → List ℕ → State (Built Place)
-joined b row piece = stream.feed bytes (add ruler counts 4 spacing) (record { left = left b; kept = builtOf (settled b) row }) piece
+joined b row piece = stream.feed reader (add ruler counts width spacing) (record { left = left b; kept = builtOf (settled b) row }) piece
 
 pub record Walks (from : Place) (text row : List ℕ) : Type 0 where
   pub fits : Fits from
@@ -111,7 +110,7 @@ pub record Granted (b : Builder) (more : ℕ) (row : List ℕ) : Type 0 where
 -- with the seam of what is pending and the piece
 pub record Seams (b : Builder) (piece seam row : List ℕ) : Type 0 where
   pub granted : Granted b (length piece) row
-  pub three : length (b .held) ≡ 3
+  pub three : length (b .held) ≡ mostPending
   pub seam-is : seam ≡ four (left b) piece
 
 abbrev pub grown : Builder → List ℕ → List ℕ → List ℕ → Builder → Type 0

@@ -9,7 +9,7 @@ ghost use lib.ListN.{length};
 ghost use Rattle.division.specs.Index.{begun};
 ghost use Rattle.place.specs.Measures.{ruler};
 ghost use Rattle.place.specs.Lookup.{counts};
-ghost use Rattle.checkpoints.specs.Checkpoints.{spacing};
+ghost use Rattle.checkpoints.specs.Checkpoints.{spacing, width};
 ghost use Rattle.build.specs.Building.{ended, Feeds, Finishes};
 ghost use Rattle.build.specs.Steps.{Ahead, Advances, keeping, Walks, Walked, Seams, Closes, Granted, streamOf, joined, grown};
 ghost use Rattle.build.specs.Steps.{Stretches, Stretched};
@@ -17,8 +17,8 @@ ghost use Rattle.build.specs.Runs.{Runs};
 
 // Checkpoint 0, which every call writes: the start of the text.
 fn mark_start(row: &mut [u32])
-    requires { ⌜ 4 ≤ length (now row) ⌝ }
-    ensures { λ r. ⌜ now (row .exit) ≡ begun ruler counts 4 spacing (now (row .entry)) .row ⌝ }
+    requires { ⌜ width ≤ length (now row) ⌝ }
+    ensures { λ r. ⌜ now (row .exit) ≡ begun ruler counts width spacing (now (row .entry)) .row ⌝ }
 {
     marking::mark(row, 0, Place::start());
 }

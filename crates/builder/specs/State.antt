@@ -3,13 +3,12 @@
 use Prim.Native.Nat.{ℕ, _+_, _-_}
 use mathlib.Core.Bool.{Bool, cond, _&&_}
 use mathlib.Core.List.{List, [], _∷_}
-use lib.ListN.{take, drop}
+use lib.ListN.{take}
 use lib.Dec.{leb, ltb}
-use Rattle.division.specs.Reader.{pending}
-use Rattle.terms.specs.Limits.{limit}
+use Rattle.terms.specs.Checks.{tested}
+use Rattle.terms.specs.Limits.{limit, unheld}
 use Rattle.terms.specs.Told.{refusal}
-use Rattle.utf8.specs.Bytes.{bytes}
-use Rattle.utf8.specs.Pending.{zeros}
+use Rattle.pending.specs.Tail.{isTail}
 use Rattle.place.specs.Measures.{place}
 use Rattle.place.specs.declared.Place.{Place}
 use Rattle.checkpoints.specs.Checkpoints.{needed}
@@ -18,7 +17,7 @@ use Rattle.builder.specs.declared.Building.{Building}
 use Rattle.builder.specs.declared.Building.the-variants.{Done, Refused}
 
 abbrev pub freshBuilder : Builder
-freshBuilder = record { held = 0 ∷ 0 ∷ 0 ∷ []; pending = 0; taken = 0; units = 0; points = 0; lines = 0 }
+freshBuilder = record { held = unheld; pending = 0; taken = 0; units = 0; points = 0; lines = 0 }
 
 -- the pending bytes, and the last settled place
 abbrev pub left : Builder → List ℕ
@@ -31,9 +30,7 @@ settled b = place (b .taken - b .pending) (b .units) (b .points) (b .lines)
 -- within the limit; pending at most taken; lines ≤ code points ≤ units ≤ taken less pending
 abbrev pub sound : Builder → Bool
 sound b =
-    leb (b .pending) 3
-    && pending bytes (left b)
-    && zeros (drop (b .pending) (b .held))
+    isTail (b .held) (b .pending)
     && leb (b .taken) limit
     && leb (b .pending) (b .taken)
     && leb (b .lines) (b .points)
@@ -48,8 +45,4 @@ building (Refused r) = refusal r
 
 abbrev pub buildSays : Builder → ℕ → ℕ → List ℕ
 buildSays b more room =
-    cond (sound b)
-    (cond (ltb limit (b .taken + more)) (2 ∷ [])
-    (cond (ltb room (needed (b .taken + more))) (3 ∷ needed (b .taken + more) ∷ [])
-    (0 ∷ [])))
-    (8 ∷ [])
+    tested (sound b) (b .taken) more (cond (ltb room (needed (b .taken + more))) (3 ∷ needed (b .taken + more) ∷ []) (0 ∷ []))

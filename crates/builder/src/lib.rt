@@ -8,7 +8,7 @@ ghost use Rattle.builder.specs.State.{freshBuilder, settled, sound, buil
 // What the builder keeps between two pieces.
 pub struct Builder {
     // the pending bytes, unused ones 0, and how many there are
-    pub held: [u8; 3],
+    pub held: [u8; Decoder::PENDING],
     pub pending: usize,
     // bytes taken, and the units, code points and lines at the last settled place
     pub taken: usize,
@@ -23,7 +23,7 @@ impl Builder {
         ensures { λ r. ⌜ r ≡ freshBuilder ⌝ }
     {
         Builder {
-            held: [0, 0, 0],
+            held: [0; Decoder::PENDING],
             pending: 0,
             taken: 0,
             units: 0,
@@ -95,7 +95,7 @@ pub fn check(state: Builder, more: usize, room: usize) -> Building
     if Decoder::LIMIT - state.taken < more {
         return Building::Refused(Refusal::OverLimit);
     }
-    let needed = 4 * ((state.taken + more) / checkpoints::SPACING + 1);
+    let needed = checkpoints::needed(state.taken + more);
     if room < needed {
         return Building::Refused(Refusal::NoRoom { needed });
     }

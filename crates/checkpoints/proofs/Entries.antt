@@ -8,18 +8,18 @@ use lib.ListN.{length, getD, take, drop, drop-of-length-le}
 use lib.Seq.{getD-take, getD-drop}
 use native.Mathlib.Omega.{arith}
 use Rattle.place.specs.Measures.{place}
-use Rattle.checkpoints.specs.Checkpoints.{placeOf, checkpoint}
+use Rattle.checkpoints.specs.Checkpoints.{width, placeOf, checkpoint}
 
--- the four numbers from 4k on
+-- the numbers from its first on
 pub checkpoint-is : (row : List ℕ) (k : ℕ)
-    → place (getD row (4 * k) 0) (getD row (4 * k + 1) 0) (getD row (4 * k + 2) 0) (getD row (4 * k + 3) 0) ≡ checkpoint row k
+    → place (getD row (width * k) 0) (getD row (width * k + 1) 0) (getD row (width * k + 2) 0) (getD row (width * k + 3) 0) ≡ checkpoint row k
 checkpoint-is row k =
-    let number : (i : ℕ) → i < 4 → getD (take 4 (drop (4 * k) row)) i 0 ≡ getD row (4 * k + i) 0
-    = λ i h. getD-take 4 (drop (4 * k) row) i 0 h ∙ getD-drop (4 * k) row i 0 in
+    let number : (i : ℕ) → i < width → getD (take width (drop (width * k) row)) i 0 ≡ getD row (width * k + i) 0
+    = λ i h. getD-take width (drop (width * k) row) i 0 h ∙ getD-drop (width * k) row i 0 in
     rw (number 0 (omega arith), number 1 (omega arith), number 2 (omega arith), number 3 (omega arith), add-zero)
 
 -- past the end they are 0
-pub checkpoint-past : (row : List ℕ) (k : ℕ) → length row / 4 < k → place 0 0 0 0 ≡ checkpoint row k
+pub checkpoint-past : (row : List ℕ) (k : ℕ) → length row / width < k → place 0 0 0 0 ≡ checkpoint row k
 checkpoint-past row k h =
-    let none : drop (4 * k) row ≡ [] = drop-of-length-le row {i = 4 * k} (omega arith) in
-    ap (λ (l : List ℕ). placeOf (take 4 l)) (sym none)
+    let none : drop (width * k) row ≡ [] = drop-of-length-le row {i = width * k} (omega arith) in
+    ap (λ (l : List ℕ). placeOf (take width l)) (sym none)

@@ -1,4 +1,4 @@
--- Whether a checkpoint is usable: the tests, by the first multiple of 256 at or behind its byte.
+-- Whether a checkpoint is usable: the tests, by the first multiple of the spacing at or behind its byte.
 -- Assumes nothing.
 use mathlib.Core.Path.{_≡_}
 use Prim.Native.Nat.{ℕ, _+_, _-_, _*_, _/_, _%_, _≤_, _<_}
@@ -8,8 +8,7 @@ use borrow.Author.Tests.{le-leb, lt-leb}
 use native.Mathlib.Omega.{arith}
 use Rattle.division.specs.Index.{usable}
 use Rattle.division.proofs.Cases.{under}
-use Rattle.utf8.specs.Bytes.{bytes}
-use Rattle.place.specs.Measures.{ruler}
+use Rattle.place.specs.Measures.{ruler, reader, longest}
 use Rattle.place.specs.Walk.{fair}
 use Rattle.place.specs.declared.Place.{Place}
 use Rattle.checkpoints.specs.Checkpoints.{spacing}
@@ -23,14 +22,14 @@ abbrev pub short : ℕ → ℕ
 short n = (spacing - n % spacing) % spacing
 
 module _ (m : Place → ℕ) (o j : ℕ) (q : Place) where
-  pub usable-other : (behind (q .bytes) ≡ j → ⊥) → false ≡ usable bytes ruler 4 spacing fair m o j q
+  pub usable-other : (behind (q .bytes) ≡ j → ⊥) → false ≡ usable reader ruler longest spacing fair m o j q
   usable-other h =
       under (spacing * j) (q .bytes)
-      (λ k. rw (lt-leb (q .bytes) (spacing * j) k, and-false (leb (spacing * j) (q .bytes + 3))))
-      (λ k. let far : q .bytes + 3 < spacing * j = omega arith in rw (lt-leb (spacing * j) (q .bytes + 3) far))
+      (λ k. rw (lt-leb (q .bytes) (spacing * j) k, and-false (leb (spacing * j) (q .bytes + (longest - 1)))))
+      (λ k. let far : q .bytes + (longest - 1) < spacing * j = omega arith in rw (lt-leb (spacing * j) (q .bytes + (longest - 1)) far))
 
-  pub usable-far : behind (q .bytes) ≡ j → 3 < short (q .bytes) → false ≡ usable bytes ruler 4 spacing fair m o j q
-  usable-far h k = rw (lt-leb (spacing * j) (q .bytes + 3) (omega arith))
+  pub usable-far : behind (q .bytes) ≡ j → longest ≤ short (q .bytes) → false ≡ usable reader ruler longest spacing fair m o j q
+  usable-far h k = rw (lt-leb (spacing * j) (q .bytes + (longest - 1)) (omega arith))
 
-  pub usable-near : behind (q .bytes) ≡ j → short (q .bytes) ≤ 3 → fair q && leb (m q) o ≡ usable bytes ruler 4 spacing fair m o j q
-  usable-near h k = rw (le-leb (spacing * j) (q .bytes + 3) (omega arith), le-leb (q .bytes) (spacing * j) (omega arith))
+  pub usable-near : behind (q .bytes) ≡ j → short (q .bytes) < longest → fair q && leb (m q) o ≡ usable reader ruler longest spacing fair m o j q
+  usable-near h k = rw (le-leb (spacing * j) (q .bytes + (longest - 1)) (omega arith), le-leb (q .bytes) (spacing * j) (omega arith))

@@ -5,17 +5,20 @@ use mathlib.Core.List.{List}
 use lib.ListN.{getD}
 use Rattle.division.specs.Tally.{written}
 use Rattle.division.specs.Index.{entry, marks, index}
-use Rattle.utf8.specs.Bytes.{bytes}
-use Rattle.place.specs.Measures.{place, ruler}
+use Rattle.place.specs.Measures.{place, ruler, reader}
 use Rattle.place.specs.Lookup.{counts}
 use Rattle.place.specs.declared.Place.{Place}
 
 abbrev pub spacing : ℕ
 spacing = 256
 
+-- the numbers that a checkpoint takes in the index: its four counts
+abbrev pub width : ℕ
+width = 4
+
 -- how many numbers the index of a text of so many bytes has
 abbrev pub needed : ℕ → ℕ
-needed n = 4 * marks spacing n
+needed n = width * marks spacing n
 
 -- a place from its four numbers
 abbrev pub placeOf : List ℕ → Place
@@ -23,8 +26,8 @@ placeOf l = place (getD l 0 0) (getD l 1 0) (getD l 2 0) (getD l 3 0)
 
 -- THE INDEX OF A TEXT: checkpoint k is the last place at or before byte 256 × k
 abbrev pub indexOf : List ℕ → List ℕ
-indexOf text = written counts (index bytes ruler spacing text)
+indexOf text = written counts (index reader ruler spacing text)
 
 -- checkpoint k, as an index has it
 abbrev pub checkpoint : List ℕ → ℕ → Place
-checkpoint row = entry 4 placeOf row
+checkpoint row = entry width placeOf row

@@ -3,15 +3,32 @@ use place::Offset;
 use place::Place;
 ghost use mathlib.Core.Path.{_≡_};
 ghost use lib.ListN.{getD};
-ghost use Rattle.division.specs.Index.{usable};
-ghost use Rattle.utf8.specs.Bytes.{bytes};
-ghost use Rattle.place.specs.Measures.{ruler};
+ghost use Rattle.division.specs.Index.{marks, usable};
+ghost use Rattle.place.specs.Measures.{ruler, reader, longest};
 ghost use Rattle.place.specs.Walk.{number, measure, fair};
-ghost use Rattle.checkpoints.specs.Checkpoints.{spacing, checkpoint};
+ghost use Rattle.checkpoints.specs.Checkpoints.{spacing, needed, checkpoint};
 ghost use Rattle.checkpoints.specs.Choosing.{passes, halved};
 
 // A checkpoint stands at each multiple of so many bytes.
 pub const SPACING: usize = 256;
+// The numbers that it takes in the index: its four counts.
+pub const WIDTH: usize = 4;
+// The most bytes of a segment.
+const LONGEST: usize = 4;
+
+// How many checkpoints a text of so many bytes has.
+pub fn marks(long: usize) -> usize
+    ensures { λ r. ⌜ r ≡ marks spacing long ⌝ }
+{
+    long / SPACING + 1
+}
+
+// How many numbers its index has.
+pub fn needed(long: usize) -> usize
+    ensures { λ r. ⌜ r ≡ needed long ⌝ }
+{
+    WIDTH * marks(long)
+}
 
 // A number of the index, 0 where it has not so many.
 fn number_at(row: &[u32], at: usize) -> usize
@@ -27,10 +44,10 @@ fn number_at(row: &[u32], at: usize) -> usize
 pub fn checkpoint(row: &[u32], k: usize) -> Place
     ensures { λ r. ⌜ r ≡ checkpoint (now (row .entry)) k ⌝ }
 {
-    if row.len() / 4 < k {
+    if row.len() / WIDTH < k {
         return Place::start();
     }
-    let at = 4 * k;
+    let at = WIDTH * k;
     Place {
         bytes: number_at(row, at),
         units: number_at(row, at + 1),
@@ -71,13 +88,13 @@ pub fn halve(row: &[u32], n: usize, to: Offset) -> usize
 // Checkpoint j is near byte 256 × j, its other counts are in range, and it is not past the offset. The product could
 // overflow: j is compared with the number of the first multiple at or behind its byte.
 pub fn usable(q: Place, j: usize, to: Offset) -> bool
-    ensures { λ r. ⌜ r ≡ usable bytes ruler 4 spacing fair (measure to) (number to) j q ⌝ }
+    ensures { λ r. ⌜ r ≡ usable reader ruler longest spacing fair (measure to) (number to) j q ⌝ }
 {
     let over = q.bytes % SPACING;
     if q.bytes / SPACING + (over + SPACING - 1) / SPACING != j {
         return false;
     }
-    if 3 < (SPACING - over) % SPACING {
+    if LONGEST <= (SPACING - over) % SPACING {
         return false;
     }
     q.fair() & (to.count(q) <= to.number())

@@ -9,8 +9,7 @@ use Rattle.division.specs.Tally.{size}
 use Rattle.division.specs.Place.{last}
 use Rattle.division.proofs.Dividing.{cut-nil}
 use Rattle.division.proofs.Placing.{last-over, last-here, last-boundary, place-in}
-use Rattle.utf8.specs.Bytes.{bytes}
-use Rattle.place.specs.Measures.{ruler}
+use Rattle.place.specs.Measures.{ruler, reader}
 use Rattle.place.specs.Cutting.{ending}
 use Rattle.place.specs.Walk.{reached}
 use Rattle.place.specs.declared.Place.{Place}
@@ -31,11 +30,11 @@ module _ (m : Place → ℕ) (most : ℕ) {from : Place} {text : List ℕ} {at :
   pub keeps-over : {q : Place} → Taken text at p q → most < m q → p ≡ reached m most from text
   keeps-over t h =
       let s = t .segment in
-      rw (r .same, t .cuts) (sym (last-here (ruler .step) m most p s (cut bytes (drop (at + size s) text)) (rw (t .place) at h)))
+      rw (r .same, t .cuts) (sym (last-here (ruler .step) m most p s (cut reader (drop (at + size s) text)) (rw (t .place) at h)))
 
   pub keeps-end : length text ≤ at → p ≡ reached m most from text
-  keeps-end h = rw (r .same, drop-of-length-le text h, cut-nil bytes)
+  keeps-end h = rw (r .same, drop-of-length-le text h, cut-nil reader)
 
 -- from the start of a text it lies in the text
 pub ending-in : (m : Place → ℕ) (most : ℕ) (text : List ℕ) → ending m most text ≤ length text
-ending-in m most text = place-in bytes measured text (last-boundary (ruler .step) m most (ruler .zeroth) (cut bytes text))
+ending-in m most text = place-in reader measured text (last-boundary (ruler .step) m most (ruler .zeroth) (cut reader text))

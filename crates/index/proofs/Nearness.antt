@@ -1,4 +1,5 @@
--- A lookup in a text's index ends near its start: from the checkpoint chosen to the place found are fewer than 256 + 4 bytes.
+-- A lookup in a text's index ends near its start: from the checkpoint chosen to the place found are fewer bytes than the
+-- spacing and one segment have.
 -- Assumes nothing.
 use mathlib.Core.Path.{_≡_}
 use Prim.Native.Nat.{ℕ, _+_, _/_, _≤_, _<_}
@@ -11,9 +12,8 @@ use native.Mathlib.Omega.{arith}
 use Rattle.division.specs.Place.{at, plain}
 use Rattle.division.specs.Index.{marks}
 use Rattle.division.proofs.Indexing.{bytes-near, halving-near}
-use Rattle.utf8.specs.Bytes.{bytes}
-use Rattle.utf8.proofs.Rows.{bytes-division, bytes-top}
-use Rattle.place.specs.Measures.{ruler}
+use Rattle.place.proofs.Reading.{reader-division, reader-top}
+use Rattle.place.specs.Measures.{ruler, reader, longest}
 use Rattle.place.specs.Walk.{number, measure}
 use Rattle.place.specs.declared.Place.{Place}
 use Rattle.place.specs.declared.Offset.{Offset}
@@ -21,14 +21,12 @@ use Rattle.place.specs.declared.Offset.the-variants.{Byte, Unit, Point, Line}
 use Rattle.place.proofs.Measuring.{measured}
 use Rattle.checkpoints.specs.Checkpoints.{spacing, checkpoint}
 use Rattle.checkpoints.specs.Choosing.{less, halved}
-use Rattle.index.proofs.Truth.{Indexes, good}
+use Rattle.index.specs.Agreeing.{Indexes}
+use Rattle.index.proofs.Truth.{good}
 
--- fewer than 256 + 4 bytes from checkpoint j
+-- fewer bytes from checkpoint j than the spacing and one segment have
 abbrev pub Near : List ℕ → ℕ → Place → Type 0
-Near row j p = p .bytes < checkpoint row j .bytes + (256 + 4)
-
-tops : (x : ℕ) (xs : List ℕ) → bytes x xs .more < 4
-tops x xs = omega (arith, bytes-top x xs)
+Near row j p = p .bytes < checkpoint row j .bytes + (spacing + longest)
 
 -- a count that fails the test is the offset or more
 fails : (to : Offset) (c : ℕ) → less to c (number to) ≡ false → number to ≤ c
@@ -39,12 +37,12 @@ fails (Line n) c f = ltb-false c (n .0) f
 
 module _ (row text : List ℕ) (e : Indexes row text) where
   -- BY BYTES, where division chooses
-  pub near-byte : (o : ℕ) (p : Place) → plain bytes ruler (λ q. q .bytes) o text ≡ at p → Near row (o / spacing) p
-  near-byte = bytes-near bytes-division measured 4 spacing (omega arith) tops text (checkpoint row) (good row text e)
+  pub near-byte : (o : ℕ) (p : Place) → plain reader ruler (λ q. q .bytes) o text ≡ at p → Near row (o / spacing) p
+  near-byte = bytes-near reader-division measured longest spacing (omega arith) reader-top text (checkpoint row) (good row text e)
 
   -- BY UNITS, CODE POINTS AND LINES, where halving chooses
-  pub near-halved : (to : Offset) (p : Place) → plain bytes ruler (measure to) (number to) text ≡ at p
+  pub near-halved : (to : Offset) (p : Place) → plain reader ruler (measure to) (number to) text ≡ at p
       → Near row (halved to row (marks spacing (length text))) p
   near-halved to =
-      halving-near bytes-division measured 4 spacing (omega arith) tops text (checkpoint row) (good row text e) (measure to) (less to) (number to)
+      halving-near reader-division measured longest spacing (omega arith) reader-top text (checkpoint row) (good row text e) (measure to) (less to) (number to)
       (fails to)

@@ -15,8 +15,7 @@ use Rattle.division.proofs.Rows.{div-in}
 use Rattle.division.proofs.Indexing.{Chosen, halve-chosen}
 use Rattle.terms.specs.Limits.{limit}
 use Rattle.terms.proofs.Walking.{part-is}
-use Rattle.utf8.specs.Bytes.{bytes}
-use Rattle.place.specs.Measures.{ruler}
+use Rattle.place.specs.Measures.{ruler, reader, longest}
 use Rattle.place.specs.Lookup.{foundSays}
 use Rattle.place.specs.Walk.{number, measure, fair, walkSays, resumeSays}
 use Rattle.place.specs.declared.Place.{Place}
@@ -29,11 +28,11 @@ use Rattle.index.specs.Resuming.{Among, fromSays}
 -- ---- the walk from a usable checkpoint, which is handed `&text[at..]`
 
 module _ (m : Place → ℕ) (o j : ℕ) (q : Place) where
-  pub from-unusable : (text : List ℕ) → usable bytes ruler 4 spacing fair m o j q ≡ false
-      → 6 ∷ j ∷ [] ≡ foundSays (from bytes ruler 4 spacing fair m o j q text)
+  pub from-unusable : (text : List ℕ) → usable reader ruler longest spacing fair m o j q ≡ false
+      → 6 ∷ j ∷ [] ≡ foundSays (from reader ruler longest spacing fair m o j q text)
   from-unusable text e = rw e
 
-  module _ (e : usable bytes ruler 4 spacing fair m o j q ≡ true) where
+  module _ (e : usable reader ruler longest spacing fair m o j q ≡ true) where
     tests : (q .bytes ≤ spacing * j) × (fair q ≡ true)
     tests =
         let a = both (leb (spacing * j) (q .bytes + 3) && leb (q .bytes) (spacing * j) && fair q) (leb (m q) o) e in
@@ -45,7 +44,7 @@ module _ (m : Place → ℕ) (o j : ℕ) (q : Place) where
     usable-in text h = omega (arith, tests .0)
 
     pub from-usable : (text : List ℕ) → length text ≤ limit → spacing * j ≤ length text
-        → resumeSays m o q (take (length text - q .bytes) (drop (q .bytes) text)) ≡ foundSays (from bytes ruler 4 spacing fair m o j q text)
+        → resumeSays m o q (take (length text - q .bytes) (drop (q .bytes) text)) ≡ foundSays (from reader ruler longest spacing fair m o j q text)
     from-usable text w h =
         let rest : List ℕ = drop (q .bytes) text in
         let l : q .bytes + length rest ≤ limit = omega (arith, usable-in text h, length-drop (q .bytes) text) in
@@ -55,8 +54,8 @@ module _ (m : Place → ℕ) (o j : ℕ) (q : Place) where
 
 -- the checkpoint as it was read
 pub from-read : (to : Offset) (j : ℕ) (text row : List ℕ) (q : Place) → q ≡ checkpoint row j
-    → foundSays (from bytes ruler 4 spacing fair (measure to) (number to) j q text) ≡ fromSays to j text row
-from-read to j text row q e = ap (λ (p : Place). foundSays (from bytes ruler 4 spacing fair (measure to) (number to) j p text)) e
+    → foundSays (from reader ruler longest spacing fair (measure to) (number to) j q text) ≡ fromSays to j text row
+from-read to j text row q e = ap (λ (p : Place). foundSays (from reader ruler longest spacing fair (measure to) (number to) j p text)) e
 
 -- ---- the refusals before: 2, then 3
 
@@ -77,17 +76,17 @@ module _ (text row : List ℕ) (h : length text ≤ limit) (room : needed (lengt
   -- by division, behind refusal 4
   pub byte-past : (o : ℕ) → length text < o → 4 ∷ [] ≡ byteSays o text row
   byte-past o k =
-      let says : 4 ∷ [] ≡ foundSays (byBytes bytes ruler 4 spacing fair o (checkpoint row) text) = rw (lt-ltb (length text) o k) in
+      let says : 4 ∷ [] ≡ foundSays (byBytes reader ruler longest spacing fair o (checkpoint row) text) = rw (lt-ltb (length text) o k) in
       says ∙ sym (indexed-on text row _ h room)
 
   pub byte-among : (o : ℕ) → o ≤ length text → Among (o / spacing) text
   byte-among o k = record { within = h; reached = omega arith }
 
   pub byte-from : (o : ℕ) → o ≤ length text
-      → foundSays (from bytes ruler 4 spacing fair (λ p. p .bytes) o (o / spacing) (checkpoint row (o / spacing)) text) ≡ byteSays o text row
+      → foundSays (from reader ruler longest spacing fair (λ p. p .bytes) o (o / spacing) (checkpoint row (o / spacing)) text) ≡ byteSays o text row
   byte-from o k =
-      let says : byBytes bytes ruler 4 spacing fair o (checkpoint row) text
-      ≡ from bytes ruler 4 spacing fair (λ p. p .bytes) o (o / spacing) (checkpoint row (o / spacing)) text
+      let says : byBytes reader ruler longest spacing fair o (checkpoint row) text
+      ≡ from reader ruler longest spacing fair (λ p. p .bytes) o (o / spacing) (checkpoint row (o / spacing)) text
       = rw (le-ltb (length text) o k) in
       sym (ap foundSays says) ∙ sym (indexed-on text row _ h room)
 

@@ -7,8 +7,7 @@ use lib.ListN.{length}
 use lib.Dec.{ltb}
 use Rattle.division.specs.Index.{byBytes, byHalving}
 use Rattle.terms.specs.Strict.{limited}
-use Rattle.utf8.specs.Bytes.{bytes}
-use Rattle.place.specs.Measures.{ruler}
+use Rattle.place.specs.Measures.{ruler, reader, longest}
 use Rattle.place.specs.Lookup.{foundSays}
 use Rattle.place.specs.Walk.{fair}
 use Rattle.place.specs.declared.Place.{Place}
@@ -18,10 +17,10 @@ use Rattle.checkpoints.specs.Checkpoints.{spacing, needed, checkpoint}
 abbrev pub indexed : List ℕ → List ℕ → List ℕ → List ℕ
 indexed text row granted = limited text (cond (ltb (length row) (needed (length text))) (3 ∷ needed (length text) ∷ []) granted)
 
--- LOOKUP BY BYTES: then 4, then from the checkpoint that division chooses; no segment has more than 4 bytes
+-- LOOKUP BY BYTES: then 4, then from the checkpoint that division chooses; no segment is longer than `longest`
 abbrev pub byteSays : ℕ → List ℕ → List ℕ → List ℕ
-byteSays offset text row = indexed text row (foundSays (byBytes bytes ruler 4 spacing fair offset (checkpoint row) text))
+byteSays offset text row = indexed text row (foundSays (byBytes reader ruler longest spacing fair offset (checkpoint row) text))
 
 -- LOOKUP BY ANOTHER MEASURE: from the checkpoint that halving chooses, by `leb` for units and code points, `ltb` for lines
 abbrev pub halvingSays : (Place → ℕ) → (ℕ → ℕ → Bool) → ℕ → List ℕ → List ℕ → List ℕ
-halvingSays measure less offset text row = indexed text row (foundSays (byHalving bytes ruler 4 spacing fair measure less offset (checkpoint row) text))
+halvingSays measure less offset text row = indexed text row (foundSays (byHalving reader ruler longest spacing fair measure less offset (checkpoint row) text))

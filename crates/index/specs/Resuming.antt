@@ -5,8 +5,7 @@ use mathlib.Core.List.{List}
 use lib.ListN.{length}
 use Rattle.division.specs.Index.{from}
 use Rattle.terms.specs.Limits.{limit}
-use Rattle.utf8.specs.Bytes.{bytes}
-use Rattle.place.specs.Measures.{ruler}
+use Rattle.place.specs.Measures.{ruler, reader, longest}
 use Rattle.place.specs.Lookup.{foundSays}
 use Rattle.place.specs.Walk.{number, measure, fair}
 use Rattle.place.specs.declared.Offset.{Offset}
@@ -19,4 +18,4 @@ pub record Among (j : ℕ) (text : List ℕ) : Type 0 where
 
 -- lookup from it on
 abbrev pub fromSays : Offset → ℕ → List ℕ → List ℕ → List ℕ
-fromSays to j text row = foundSays (from bytes ruler 4 spacing fair (measure to) (number to) j (checkpoint row j) text)
+fromSays to j text row = foundSays (from reader ruler longest spacing fair (measure to) (number to) j (checkpoint row j) text)

@@ -37,7 +37,7 @@ pub fn at_byte(text: &[u8], row: &[u32], offset: Bytes) -> Placed
     if Decoder::LIMIT < long {
         return Placed::Refused(Refusal::OverLimit);
     }
-    let needed = 4 * (long / SPACING + 1);
+    let needed = checkpoints::needed(long);
     if row.len() < needed {
         return Placed::Refused(Refusal::NoRoom { needed });
     }
@@ -51,14 +51,14 @@ pub fn at_byte(text: &[u8], row: &[u32], offset: Bytes) -> Placed
 fn by_halving(text: &[u8], row: &[u32], to: Offset) -> Placed
     ensures { λ r. ⌜ placed r ≡ halvingSays (measure to) (less to) (number to) (now (text .entry)) (now (row .entry)) ⌝ }
 {
-    let long = text.len();
-    if Decoder::LIMIT < long {
+    if Decoder::LIMIT < text.len() {
         return Placed::Refused(Refusal::OverLimit);
     }
-    let n = long / SPACING + 1;
-    if row.len() < 4 * n {
-        return Placed::Refused(Refusal::NoRoom { needed: 4 * n });
+    let needed = checkpoints::needed(text.len());
+    if row.len() < needed {
+        return Placed::Refused(Refusal::NoRoom { needed });
     }
+    let n = checkpoints::marks(text.len());
     look_from(text, row, checkpoints::halve(row, n, to), to)
 }
 

@@ -12,8 +12,7 @@ use Rattle.division.specs.Table.{Kind}
 use Rattle.division.specs.Place.{here, lookup}
 use Rattle.division.proofs.Dividing.{cut-nil}
 use Rattle.terms.specs.Limits.{limit}
-use Rattle.utf8.specs.Bytes.{bytes}
-use Rattle.place.specs.Measures.{ruler}
+use Rattle.place.specs.Measures.{ruler, reader}
 use Rattle.place.specs.Lookup.{counts, lookupSays}
 use Rattle.place.specs.Walk.{walkSays}
 use Rattle.place.specs.declared.Place.{Place}
@@ -30,7 +29,7 @@ module _ (m : Place → ℕ) (o : ℕ) {from : Place} {text : List ℕ} {at : �
 
   -- or the text has ended
   pub seeks-past : m p < o → at ≡ length text → 4 ∷ [] ≡ walkSays m o from text
-  seeks-past h e = rw (r .same, e, drop-length text, cut-nil bytes, lt-ltb (m p) o h)
+  seeks-past h e = rw (r .same, e, drop-length text, cut-nil reader, lt-ltb (m p) o h)
 
   -- the count is the offset, or more
   stops : o ≤ m p → (ss : List (Segment Kind)) → lookup (ruler .step) m o p ss ≡ here (ruler .step) m o p

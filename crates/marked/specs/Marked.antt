@@ -7,7 +7,6 @@ use Rattle.division.specs.Tally.{written}
 use Rattle.division.specs.Reader.{Reader, cut}
 use Rattle.division.specs.Table.{Kind}
 use Rattle.division.specs.Place.{Found, inside, past, places, plain}
-use Rattle.division.specs.Index.{index}
 use Rattle.terms.specs.Form.{Form, pointOf, repaired, converted}
 use Rattle.terms.specs.Strict.{damages, checkSays}
 use Rattle.utf8.specs.Bytes.{bytes}
@@ -16,6 +15,7 @@ use Rattle.utf16.specs.Units.{units}
 use Rattle.utf16.specs.Scalar.{utf16}
 use Rattle.place.specs.Measures.{place, ruler}
 use Rattle.place.specs.declared.Place.{Place}
+use Rattle.checkpoints.specs.Checkpoints.{indexOf}
 
 -- the starts and lengths of a text's damages
 abbrev hurt : Reader Kind → List ℕ → List ℕ
@@ -34,7 +34,7 @@ mixed = 0x41 ∷ 0xE2 ∷ 0x82 ∷ 0xAC ∷ 0xF0 ∷ 0x9F ∷ 0x9A ∷ 0x86 ∷ 
 
 pub record Marked : Type 0 where
   pub empty-checks : checkSays bytes [] ≡ 0 ∷ []
-  pub empty-checkpoint : index bytes ruler 256 [] ≡ place 0 0 0 0 ∷ []
+  pub empty-checkpoint : indexOf [] ≡ 0 ∷ 0 ∷ 0 ∷ 0 ∷ []
   pub euro : points utf8 (0xE2 ∷ 0x82 ∷ 0xAC ∷ []) ≡ 0x20AC ∷ []
   pub train : points utf8 (0xF0 ∷ 0x9F ∷ 0x9A ∷ 0x86 ∷ []) ≡ 0x1F686 ∷ []
   pub train-units : converted utf8 utf16 (0xF0 ∷ 0x9F ∷ 0x9A ∷ 0x86 ∷ []) ≡ 0xD83D ∷ 0xDE86 ∷ []

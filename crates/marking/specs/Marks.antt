@@ -9,7 +9,7 @@ use lib.Dec.{ltb, eqb}
 use Rattle.place.specs.Measures.{place}
 use Rattle.place.specs.Lookup.{counts}
 use Rattle.place.specs.declared.Place.{Place}
-use Rattle.checkpoints.specs.Checkpoints.{spacing}
+use Rattle.checkpoints.specs.Checkpoints.{spacing, width}
 
 -- counts in 32 bits
 abbrev pub short : Place → Place
@@ -17,7 +17,7 @@ short p = place (p .bytes % 2 ^ 32) (p .units % 2 ^ 32) (p .points % 2 ^ 32) (p 
 
 -- checkpoint k is this place, where the row has room for it
 abbrev pub markedAt : List ℕ → ℕ → Place → List ℕ
-markedAt row k p = cond (ltb k (length row / 4)) (sets row (4 * k) (counts (short p))) row
+markedAt row k p = cond (ltb k (length row / width)) (sets row (width * k) (counts (short p))) row
 
 -- the first checkpoint above p, if it is not above q: it is q itself where q lies at it
 abbrev pub markedOnce : List ℕ → Place → Place → List ℕ

@@ -15,10 +15,10 @@ fn entry(n: usize) -> u32
 pub fn mark(row: &mut [u32], k: usize, p: Place)
     ensures { λ r. ⌜ now (row .exit) ≡ markedAt (now (row .entry)) k p ⌝ }
 {
-    if row.len() / 4 <= k {
+    if row.len() / checkpoints::WIDTH <= k {
         return;
     }
-    let at = 4 * k;
+    let at = checkpoints::WIDTH * k;
     row[at] = entry(p.bytes);
     row[at + 1] = entry(p.units);
     row[at + 2] = entry(p.points);

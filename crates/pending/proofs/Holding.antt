@@ -13,6 +13,7 @@ use borrow.Author.Tests.{leb-true, le-leb, lt-leb, eq-eqb, ne-eqb}
 use native.Mathlib.Omega.{arith}
 use Rattle.division.specs.Reader.{pending}
 use Rattle.division.proofs.Cases.{both}
+use Rattle.terms.specs.Limits.{mostPending, unheld}
 use Rattle.terms.proofs.Walking.{part-is}
 use Rattle.terms.proofs.Writing.{lent, back, back-is}
 use Rattle.utf8.specs.Bytes.{bytes}
@@ -22,26 +23,26 @@ use Rattle.pending.specs.Tail.{isTail, four}
 -- ---- the test
 
 module _ (held : List ℕ) (n : ℕ) where
-  pub tail-long : 3 < n → false ≡ isTail held n
-  tail-long h = rw (lt-leb n 3 h)
+  pub tail-long : mostPending < n → false ≡ isTail held n
+  tail-long h = rw (lt-leb n mostPending h)
 
-  pub tail-settled : n ≤ 3 → pending bytes (take n held) ≡ false → false ≡ isTail held n
-  tail-settled h e = rw (le-leb n 3 h, e)
+  pub tail-settled : n ≤ mostPending → pending bytes (take n held) ≡ false → false ≡ isTail held n
+  tail-settled h e = rw (le-leb n mostPending h, e)
 
-  pub tail-rest : n ≤ 3 → pending bytes (take n held) ≡ true → zeros (drop n held) ≡ isTail held n
-  tail-rest h e = rw (le-leb n 3 h, e)
+  pub tail-rest : n ≤ mostPending → pending bytes (take n held) ≡ true → zeros (drop n held) ≡ isTail held n
+  tail-rest h e = rw (le-leb n mostPending h, e)
 
   -- what it says
   pub record Tail : Type 0 where
-    pub few : n ≤ 3
+    pub few : n ≤ mostPending
     pub begins : pending bytes (take n held) ≡ true
     pub unused : zeros (drop n held) ≡ true
 
   pub tail-is : isTail held n ≡ true → Tail
   tail-is e =
       let a = both _ (zeros (drop n held)) e in
-      let b = both (leb n 3) (pending bytes (take n held)) (a .0) in
-      record { few = leb-true n 3 (b .0); begins = b .1; unused = a .1 }
+      let b = both (leb n mostPending) (pending bytes (take n held)) (a .0) in
+      record { few = leb-true n mostPending (b .0); begins = b .1; unused = a .1 }
 
   pub is-tail : Tail → isTail held n ≡ true
   is-tail t = sym (tail-rest (t .few) (t .begins)) ∙ t .unused
@@ -68,7 +69,7 @@ take-min j s = go (decLe j (length s))
     go (no h) = let e : min (length s) j ≡ length s = omega arith in rw (e, take-all (length s) s (omega arith), take-all j s (omega arith))
 
 -- what is pending, and then the first bytes of a piece
-module _ (tail piece : List ℕ) (few : length tail ≤ 3) (k : ℕ) (k-is : k ≡ min (4 - length tail) (length piece)) where
+module _ (tail piece : List ℕ) (few : length tail ≤ mostPending) (k : ℕ) (k-is : k ≡ min (4 - length tail) (length piece)) where
   four-is : four tail piece ≡ tail ++ take k piece
   four-is =
       let e : 4 ≡ length tail + (4 - length tail) = omega arith in
@@ -92,14 +93,14 @@ module _ (tail piece : List ℕ) (few : length tail ≤ 3) (k : ℕ) (k-is : k �
 
 -- ---- bytes in their places, 0 for each unused one
 
-pub padded-is : (run : List ℕ) → length run ≤ 3 → run ++ drop (length run) (0 ∷ 0 ∷ 0 ∷ []) ≡ padded run
+pub padded-is : (run : List ℕ) → length run ≤ mostPending → run ++ drop (length run) unheld ≡ padded run
 padded-is [] h = refl
 padded-is (a ∷ []) h = refl
 padded-is (a ∷ b ∷ []) h = refl
 padded-is (a ∷ b ∷ c ∷ []) h = refl
 padded-is (a ∷ b ∷ c ∷ d ∷ run) h = absurd (omega arith)
 
-pub padded-take : (left : List ℕ) → padded (take 3 left) ≡ padded left
+pub padded-take : (left : List ℕ) → padded (take mostPending left) ≡ padded left
 padded-take [] = refl
 padded-take (a ∷ []) = refl
 padded-take (a ∷ b ∷ []) = refl
@@ -114,10 +115,10 @@ seam-padded (a ∷ b ∷ c ∷ d ∷ []) h = refl
 seam-padded (a ∷ b ∷ c ∷ d ∷ e ∷ run) h = absurd (omega arith)
 
 -- they are found again, and the unused ones are 0
-pub held-back : (run : List ℕ) → length run ≤ 3 → take (length run) (padded run) ≡ run
-held-back run h = take-take (length run) 3 (run ++ 0 ∷ 0 ∷ 0 ∷ []) h ∙ take-at run (0 ∷ 0 ∷ 0 ∷ []) (length run) refl
+pub held-back : (run : List ℕ) → length run ≤ mostPending → take (length run) (padded run) ≡ run
+held-back run h = take-take (length run) mostPending (run ++ unheld) h ∙ take-at run unheld (length run) refl
 
-pub held-zeros : (run : List ℕ) → length run ≤ 3 → zeros (drop (length run) (padded run)) ≡ true
+pub held-zeros : (run : List ℕ) → length run ≤ mostPending → zeros (drop (length run) (padded run)) ≡ true
 held-zeros [] h = refl
 held-zeros (a ∷ []) h = refl
 held-zeros (a ∷ b ∷ []) h = refl

@@ -14,6 +14,7 @@ use Rattle.division.specs.Table.{Kind}
 use Rattle.division.specs.Tally.{total, size}
 use Rattle.division.proofs.Cases.{split}
 use Rattle.division.proofs.Dividing.{before, pending-short}
+use Rattle.terms.specs.Limits.{mostPending}
 use Rattle.utf8.specs.Bytes.{bytes}
 use Rattle.utf8.proofs.Rows.{bytes-division, bytes-hold, bytes-top}
 use Rattle.pending.specs.Tail.{settled, four}
@@ -69,8 +70,8 @@ module _ (tail piece : List ℕ) (begins : pending bytes tail ≡ true) where
     none : total size (settled (tail ++ piece)) ≡ 0
     none = rw (four-settled (tail ++ piece)) at z
 
-    short : length (tail ++ piece) ≤ 3
-    short = pending-short bytes-division 3 bytes-hold (tail ++ piece) (pending-none (tail ++ piece) none)
+    short : length (tail ++ piece) ≤ mostPending
+    short = pending-short bytes-division mostPending bytes-hold (tail ++ piece) (pending-none (tail ++ piece) none)
 
     pub seam-all : seam ≡ tail ++ piece
     seam-all = take-all 4 (tail ++ piece) (omega (arith, short))

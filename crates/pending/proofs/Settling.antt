@@ -5,7 +5,7 @@ use Prim.Native.Nat.{ℕ, suc, _≤_}
 use native.Mathlib.Nat.{add-zero}
 use mathlib.Core.Bool.{true, false}
 use mathlib.Core.List.{List, [], _∷_}
-use lib.ListN.{length, drop}
+use lib.ListN.{length, take, drop}
 use native.Mathlib.Omega.{arith}
 use Rattle.division.specs.Reader.{parts, pending}
 use Rattle.division.specs.Reader as reader
@@ -13,13 +13,16 @@ use Rattle.division.specs.Table.{Kind, whole, damage}
 use Rattle.division.specs.Tally.{total, size}
 use Rattle.division.proofs.Cases.{split}
 use Rattle.division.proofs.Dividing.{before, first-size, parts-nil, parts-sure, parts-open, left-pending, pending-short}
+use Rattle.terms.specs.Limits.{mostPending}
 use Rattle.terms.specs.Told.{first, firstSays}
 use Rattle.terms.specs.declared.First.{First}
 use Rattle.terms.specs.declared.First.the-variants.{Nothing, Whole, Damage, Begun}
 use Rattle.terms.proofs.Walking.{Seen, seen}
 use Rattle.utf8.specs.Bytes.{bytes}
+use Rattle.utf8.specs.Pending.{padded}
 use Rattle.utf8.proofs.Rows.{bytes-division, bytes-hold}
 use Rattle.pending.specs.Tail.{settled, settledSize}
+use Rattle.pending.proofs.Holding.{Tail, held-back, held-zeros}
 
 -- ---- how a text divides behind it
 
@@ -87,9 +90,19 @@ pending-some (x ∷ xs) z = split (bytes x xs .sure)
     (λ e. rw e)
     (λ e. absurd (z (rw (settled-open x xs e))))
 
--- what is left is short
-pub left-short : (text : List ℕ) → length (parts bytes text .left) ≤ 3
-left-short text = pending-short bytes-division 3 bytes-hold (parts bytes text .left) (left-pending bytes text)
+-- what is left is short, and passes the test of pending bytes as a state keeps it
+pub left-short : (text : List ℕ) → length (parts bytes text .left) ≤ mostPending
+left-short text = pending-short bytes-division mostPending bytes-hold (parts bytes text .left) (left-pending bytes text)
+
+pub left-kept : (text : List ℕ) → take (length (parts bytes text .left)) (padded (parts bytes text .left)) ≡ parts bytes text .left
+left-kept text = held-back (parts bytes text .left) (left-short text)
+
+pub left-tail : (text : List ℕ) → Tail (padded (parts bytes text .left)) (length (parts bytes text .left))
+left-tail text = record {
+  few = left-short text;
+  begins = rw (left-kept text) (left-pending bytes text);
+  unused = held-zeros (parts bytes text .left) (left-short text);
+}
 
 -- ---- what the reader told of it
 

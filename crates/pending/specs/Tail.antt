@@ -8,6 +8,7 @@ use lib.ListN.{length, take, drop}
 use lib.Dec.{leb}
 use Rattle.division.specs.Reader.{Segment, first, pending}
 use Rattle.division.specs.Table.{Kind}
+use Rattle.terms.specs.Limits.{mostPending}
 use Rattle.terms.specs.declared.First.{First}
 use Rattle.terms.specs.declared.First.the-variants.{Nothing, Whole, Damage, Begun}
 use Rattle.utf8.specs.Bytes.{bytes}
@@ -28,7 +29,7 @@ settledSize (Begun n) = 0
 
 -- THE TEST OF n PENDING BYTES: at most 3, empty or a proper beginning of a well-formed sequence, and unused ones 0
 abbrev pub isTail : List ℕ → ℕ → Bool
-isTail held n = leb n 3 && pending bytes (take n held) && zeros (drop n held)
+isTail held n = leb n mostPending && pending bytes (take n held) && zeros (drop n held)
 
 -- THE SEAM: the first four bytes of what is pending and a piece behind it, or all of them, in four places; unused ones are 0
 abbrev pub four : List ℕ → List ℕ → List ℕ

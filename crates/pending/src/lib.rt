@@ -1,8 +1,10 @@
 // The pending bytes of a state that takes a byte text in pieces.
+use terms::Decoder;
 use terms::First;
 ghost use mathlib.Core.Path.{_≡_};
 ghost use Prim.Native.Nat.{min, _≤_};
 ghost use lib.ListN.{length};
+ghost use Rattle.terms.specs.Limits.{mostPending};
 ghost use Rattle.utf8.specs.Pending.{zeros, padded};
 ghost use Rattle.pending.specs.Tail.{settledSize, isTail, four, seamOf, Fills};
 
@@ -39,10 +41,10 @@ fn is_zero(bytes: &[u8]) -> bool
 }
 
 // Are these at most 3 pending bytes, empty or a proper beginning of a well-formed sequence, and the unused ones 0?
-pub fn is_tail(held: [u8; 3], n: usize) -> bool
+pub fn is_tail(held: [u8; Decoder::PENDING], n: usize) -> bool
     ensures { λ r. ⌜ r ≡ isTail held n ⌝ }
 {
-    if 3 < n {
+    if Decoder::PENDING < n {
         return false;
     }
     if settled_size(utf8::segment(&held[..n])) != 0 {
@@ -62,7 +64,7 @@ fn least(a: usize, b: usize) -> usize
 
 // The first four bytes of what is pending and a piece behind it, or all of them; how many they are.
 fn fill(tail: &[u8], piece: &[u8], out: &mut [u8]) -> usize
-    requires { ⌜ (length (now tail) ≤ 3) × (length (now out) ≡ 4) ⌝ }
+    requires { ⌜ (length (now tail) ≤ mostPending) × (length (now out) ≡ 4) ⌝ }
     ensures { λ r. ⌜ Fills (four (now (tail .entry)) (now (piece .entry))) (now (out .entry)) (now (out .exit)) r ⌝ }
 {
     copying::copy(tail, out);
@@ -73,21 +75,21 @@ fn fill(tail: &[u8], piece: &[u8], out: &mut [u8]) -> usize
 }
 
 // The seam of n pending bytes, or of all three where n is more, and a piece behind them.
-pub fn seam_of(held: [u8; 3], n: usize, piece: &[u8]) -> Seam
+pub fn seam_of(held: [u8; Decoder::PENDING], n: usize, piece: &[u8]) -> Seam
     ensures { λ r. ⌜ r ≡ seamOf held n (now (piece .entry)) ⌝ }
 {
     let mut bytes = [0u8; 4];
-    let k = least(n, 3);
+    let k = least(n, Decoder::PENDING);
     let size = fill(&held[..k], piece, &mut bytes);
     Seam { bytes, size }
 }
 
 // The first three bytes of what is left, 0 for each one missing.
-pub fn hold(left: &[u8]) -> [u8; 3]
+pub fn hold(left: &[u8]) -> [u8; Decoder::PENDING]
     ensures { λ r. ⌜ r ≡ padded (now (left .entry)) ⌝ }
 {
-    let mut held = [0u8; 3];
-    let k = least(left.len(), 3);
+    let mut held = [0u8; Decoder::PENDING];
+    let k = least(left.len(), Decoder::PENDING);
     copying::copy(&left[..k], &mut held);
     held
 }

@@ -10,10 +10,9 @@ use native.Mathlib.Omega.{arith}
 use Rattle.division.specs.Reader.{cut}
 use Rattle.division.specs.Place.{Found, at, inside, past, unusable, plain}
 use Rattle.division.proofs.Cases.{split}
-use Rattle.division.proofs.Placing.{lookup-place, found-count, found-rise, found-mono, PlaceOf, plain-place}
+use Rattle.division.proofs.Placing.{lookup-place, found-rise, found-mono, PlaceOf, plain-place}
 use Rattle.terms.specs.Limits.{limit}
-use Rattle.utf8.specs.Bytes.{bytes}
-use Rattle.place.specs.Measures.{ruler}
+use Rattle.place.specs.Measures.{ruler, reader}
 use Rattle.place.specs.Lookup.{counts, foundSays, lookupSays}
 use Rattle.place.specs.declared.Place.{Place}
 use Rattle.place.proofs.Telling.{told-counts}
@@ -31,23 +30,20 @@ says-at (unusable k) q e = let z : _≡_ {A = ℕ} 0 1 = cc in absurd (omega ari
 
 module _ (m : Place → ℕ) (o : ℕ) (text : List ℕ) (q : Place) where
   -- it does so exactly if the text is within the limit and the place is found
-  pub to-finds : length text ≤ limit → plain bytes ruler m o text ≡ at q → Finds m o text q
+  pub to-finds : length text ≤ limit → plain reader ruler m o text ≡ at q → Finds m o text q
   to-finds h e = rw (le-ltb limit (length text) h, e)
 
-  pub of-finds : Finds m o text q → (length text ≤ limit) × (plain bytes ruler m o text ≡ at q)
+  pub of-finds : Finds m o text q → (length text ≤ limit) × (plain reader ruler m o text ≡ at q)
   of-finds f = split (ltb limit (length text))
       (λ e. let g : 2 ∷ [] ≡ 0 ∷ counts q = rw e at f in let z : _≡_ {A = ℕ} 0 1 = cc in absurd (omega arith))
-      (λ e. (ltb-false limit (length text) e, says-at (plain bytes ruler m o text) q (rw e at f)))
+      (λ e. (ltb-false limit (length text) e, says-at (plain reader ruler m o text) q (rw e at f)))
 
-  -- what is found is a place of the text, and counts the offset
-  pub finds-place : Finds m o text q → PlaceOf bytes ruler text q
-  finds-place f = plain-place bytes ruler text m o q (of-finds f .1)
-
-  pub finds-count : Finds m o text q → m q ≡ o
-  finds-count f = found-count (ruler .step) m o (ruler .zeroth) (cut bytes text) q (of-finds f .1)
+  -- what is found is a place of the text
+  pub finds-place : Finds m o text q → PlaceOf reader ruler text q
+  finds-place f = plain-place reader ruler text m o q (of-finds f .1)
 
 -- EVERY PLACE IS FOUND by its count of bytes, of units and of code points
-pub place-finds : (m : Place → ℕ) → Rising m → (text : List ℕ) → length text ≤ limit → (q : Place) → PlaceOf bytes ruler text q → Finds m (m q) text q
+pub place-finds : (m : Place → ℕ) → Rising m → (text : List ℕ) → length text ≤ limit → (q : Place) → PlaceOf reader ruler text q → Finds m (m q) text q
 place-finds m r text h q b = to-finds m (m q) text q h (lookup-place (ruler .step) m (r .rises) b)
 
 -- THE ANSWERS UNDO EACH OTHER: a place that is found by any measure is found by its bytes, its units and its code points
@@ -67,14 +63,14 @@ finds-rise m o o′ less text q r f g = record {
   bytes = up (λ p. p .bytes) bytes-rise;
   units = up (λ p. p .units) units-rise;
   points = up (λ p. p .points) points-rise;
-  lines = found-mono (ruler .step) m o o′ less (ruler .zeroth) (cut bytes text) q r (e .1) (e′ .1) (λ p. p .lines) lines-never-fall;
+  lines = found-mono (ruler .step) m o o′ less (ruler .zeroth) (cut reader text) q r (e .1) (e′ .1) (λ p. p .lines) lines-never-fall;
 }
   where
-    e : (length text ≤ limit) × (plain bytes ruler m o text ≡ at q)
+    e : (length text ≤ limit) × (plain reader ruler m o text ≡ at q)
     e = of-finds m o text q f
 
-    e′ : (length text ≤ limit) × (plain bytes ruler m o′ text ≡ at r)
+    e′ : (length text ≤ limit) × (plain reader ruler m o′ text ≡ at r)
     e′ = of-finds m o′ text r g
 
     up : (n : Place → ℕ) → Rising n → n q < n r
-    up n s = found-rise (ruler .step) m o o′ less (ruler .zeroth) (cut bytes text) q r (e .1) (e′ .1) n (s .rises)
+    up n s = found-rise (ruler .step) m o o′ less (ruler .zeroth) (cut reader text) q r (e .1) (e′ .1) n (s .rises)

@@ -1,3 +1,4 @@
+pub mod Reading
 pub mod Telling
 pub mod Measuring
 pub mod LineEnds

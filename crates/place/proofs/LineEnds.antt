@@ -16,7 +16,8 @@ use Rattle.division.proofs.Dividing.{total-append}
 use Rattle.division.proofs.Matching.{by-rows}
 use Rattle.division.proofs.Placing.{PlaceOf}
 use Rattle.utf8.specs.Bytes.{rows, bytes}
-use Rattle.utf8.proofs.Rows.{bytes-division, bytes-stand}
+use Rattle.utf8.proofs.Rows.{bytes-read}
+use Rattle.place.proofs.Reading.{reader-division}
 use Rattle.place.specs.Measures.{ruler}
 use Rattle.place.specs.Walk.{linesByHead}
 use Rattle.place.specs.declared.Place.{Place}
@@ -53,7 +54,7 @@ high-front [] ys h = tt
 high-front (x ∷ xs) ys h = (h .0, high-front xs ys (h .1))
 
 segment-high : (x : ℕ) (xs : List ℕ) → HighTail (body (first bytes x xs))
-segment-high x xs = of-kind (bytes x xs .tag) (bytes x xs .more) (bytes-stand x xs)
+segment-high x xs = of-kind (bytes x xs .tag) (bytes x xs .more) (bytes-read .stands x xs)
   where
     of-kind : (t : Kind) (more : ℕ) → Stands rows (x ∷ xs) (suc more) t → High (take more xs)
     of-kind whole more s = high-tail (x ∷ take more xs) (s .sequence)
@@ -73,7 +74,7 @@ newlines-split n text = ap newlines (sym (take-append-drop n text)) ∙ total-ap
 
 -- THE LINES OF A PLACE: with the bytes 0A of the rest they make those of the text, all the way
 pub lines-are : (text : List ℕ) {q : Place} → PlaceOf bytes ruler text q → q .lines ≡ newlines (take (q .bytes) text)
-lines-are text {q} b = omega (arith, newlines-split (q .bytes) text, places-keep bytes-division measured Counted keep text b (omega arith))
+lines-are text {q} b = omega (arith, newlines-split (q .bytes) text, places-keep reader-division measured Counted keep text b (omega arith))
   where
     Counted : Place → List ℕ → Type 0
     Counted p ahead = p .lines + newlines ahead ≡ newlines text

@@ -20,10 +20,12 @@ use Rattle.division.proofs.Cases.{split}
 use Rattle.division.proofs.Dividing.{Division, first-size, cut-nil, cut-cons}
 use Rattle.division.proofs.Matching.{by-rows, whole-sequence}
 use Rattle.division.proofs.Placing.{NeverFalls, Rises, Measured, bytes-foldl, PlaceOf}
+use Rattle.terms.specs.Limits.{mostDamaged}
 use Rattle.terms.specs.Form.{pointOf}
 use Rattle.utf8.specs.Bytes.{rows, bytes}
 use Rattle.utf8.specs.Scalar.{number, utf8}
-use Rattle.utf8.proofs.Rows.{bytes-division, damage-short, rows-sound}
+use Rattle.utf8.proofs.Rows.{damage-short, rows-sound}
+use Rattle.place.proofs.Reading.{reader-division}
 use Rattle.place.specs.Measures.{unitsOf, linesOf, ruler}
 use Rattle.place.specs.Walk.{unitsBySize}
 use Rattle.place.specs.declared.Place.{Place}
@@ -111,7 +113,7 @@ units-by-size x xs = of-tag (bytes x xs .tag) refl
     of-tag : (t : Kind) → bytes x xs .tag ≡ t → unitsOf s ≡ unitsBySize (size s)
     of-tag whole e = rw e (by-number (number (body s)) (size s) (whole-by-length x xs e))
     of-tag damage e =
-        let short : size s ≤ 3 = omega (arith, damage-short x xs (rw e), first-size bytes-division x xs) in
+        let short : size s ≤ mostDamaged = omega (arith, damage-short x xs (rw e), first-size reader-division x xs) in
         rw (e, ne-eqb (size s) 4 (omega arith))
 
 pub units-within : (x : ℕ) (xs : List ℕ) → unitsOf (first bytes x xs) ≤ size (first bytes x xs)
@@ -141,4 +143,4 @@ ordered-next p x xs o =
     }
 
 pub ordered : (text : List ℕ) {q : Place} → PlaceOf bytes ruler text q → Ordered q
-ordered text b = places-keep bytes-division measured (λ p rest. Ordered p) ordered-next text b ordered-start
+ordered text b = places-keep reader-division measured (λ p rest. Ordered p) ordered-next text b ordered-start

@@ -13,8 +13,7 @@ use Rattle.division.specs.Table.{Kind}
 use Rattle.division.specs.Tally.{size}
 use Rattle.division.proofs.Cases.{both}
 use Rattle.terms.specs.Limits.{limit}
-use Rattle.utf8.specs.Bytes.{bytes}
-use Rattle.place.specs.Measures.{unitsOf, linesOf, ruler}
+use Rattle.place.specs.Measures.{unitsOf, linesOf, ruler, reader}
 use Rattle.place.specs.Walk.{Roomy, fair, over, going}
 use Rattle.place.specs.declared.Place.{Place}
 use Rattle.place.proofs.Measuring.{one-or-none}
@@ -25,7 +24,7 @@ pub record Reached {X : Type 0} (F : Place → List (Segment Kind) → X) (from 
   pub inside : at ≤ length text
   pub bytes-are : p .bytes ≡ from .bytes + at
   pub roomy : Roomy p (drop at text)
-  pub same : F from (cut bytes text) ≡ F p (cut bytes (drop at text))
+  pub same : F from (cut reader text) ≡ F p (cut reader (drop at text))
 
 pub reached-start : {X : Type 0} (F : Place → List (Segment Kind) → X) {from : Place} {text : List ℕ} → Roomy from text → Reached F from text 0 from
 reached-start F r = record { inside = omega arith; bytes-are = omega arith; roomy = r; same = refl }

@@ -14,9 +14,8 @@ use Rattle.terms.specs.Told as told
 use Rattle.terms.specs.declared.First.{First}
 use Rattle.terms.specs.declared.First.the-variants.{Nothing, Whole, Damage, Begun}
 use Rattle.terms.proofs.Walking.{part-is}
-use Rattle.utf8.specs.Bytes.{bytes}
-use Rattle.utf8.proofs.Rows.{bytes-division}
-use Rattle.place.specs.Measures.{place, unitsOf, ruler}
+use Rattle.place.proofs.Reading.{reader-division}
+use Rattle.place.specs.Measures.{place, unitsOf, ruler, reader}
 use Rattle.place.specs.Walk.{unitsBySize, linesByHead, wrapped, stepped, Roomy}
 use Rattle.place.specs.declared.Place.{Place}
 use Rattle.place.proofs.Measuring.{one-or-none, units-by-size, units-within}
@@ -33,13 +32,13 @@ told-size (Whole n) l e = cc
 told-size (Damage n) l e = cc
 told-size (Begun n) l e = cc
 
-pub added : (p : Place) (rest : List ℕ) → 0 < length rest → (r : First) → told.first r ≡ told.firstSays bytes rest → (n : ℕ) → n ≡ told.sizeOf r
+pub added : (p : Place) (rest : List ℕ) → 0 < length rest → (r : First) → told.first r ≡ told.firstSays reader rest → (n : ℕ) → n ≡ told.sizeOf r
     → wrapped (place (p .bytes + n) (p .units + unitsBySize n) (p .points + 1) (p .lines + linesByHead (getD rest 0 0))) ≡ stepped p rest
 added p [] h r e n i = absurd (omega arith)
 added p (x ∷ xs) h r e n i =
-    let s : Segment Kind = first bytes x xs in
-    let f : size s ≡ suc (bytes x xs .more) = first-size bytes-division x xs in
-    let k : n ≡ size s = omega (arith, told-size r (bytes x xs) e) in
+    let s : Segment Kind = first reader x xs in
+    let f : size s ≡ suc (reader x xs .more) = first-size reader-division x xs in
+    let k : n ≡ size s = omega (arith, told-size r (reader x xs) e) in
     rw (units-by-size x xs, ← k)
 
 -- THE SUMS ARE PLAIN where there is room
@@ -51,10 +50,10 @@ wrapped-same p b u c l =
     let el : p .lines % 2 ^ 64 ≡ p .lines = omega arith in
     rw (eb, eu, ec, el)
 
-pub stepped-plain : (p : Place) (x : ℕ) (xs : List ℕ) → Roomy p (x ∷ xs) → stepped p (x ∷ xs) ≡ ruler .step p (first bytes x xs)
+pub stepped-plain : (p : Place) (x : ℕ) (xs : List ℕ) → Roomy p (x ∷ xs) → stepped p (x ∷ xs) ≡ ruler .step p (first reader x xs)
 stepped-plain p x xs r =
-    let s : Segment Kind = first bytes x xs in
-    let n : size s ≤ length (x ∷ xs) = omega (arith, first-size bytes-division x xs, bytes-division .fits x xs) in
+    let s : Segment Kind = first reader x xs in
+    let n : size s ≤ length (x ∷ xs) = omega (arith, first-size reader-division x xs, reader-division .fits x xs) in
     wrapped-same (ruler .step p s)
     (omega (arith, r .bytes))
     (omega (arith, r .units, units-within x xs))
@@ -68,7 +67,7 @@ pub record Taken (text : List ℕ) (at : ℕ) (p q : Place) : Type 0 where
   pub bytes-are : q .bytes ≡ p .bytes + size segment
   pub units : unitsOf segment ≤ size segment
   pub inside : at + size segment ≤ length text
-  pub cuts : cut bytes (drop at text) ≡ segment ∷ cut bytes (drop (at + size segment) text)
+  pub cuts : cut reader (drop at text) ≡ segment ∷ cut reader (drop (at + size segment) text)
 
 -- it is what `step` gives of `&text[at..]`, where there is room
 pub taken : (text : List ℕ) (at : ℕ) (p q : Place) → at < length text → Roomy p (drop at text)
@@ -78,13 +77,13 @@ taken text at p q h r e = of-rest (drop at text) refl r (rw part-is at e)
     of-rest : (rest : List ℕ) → drop at text ≡ rest → Roomy p rest → q ≡ stepped p rest → Taken text at p q
     of-rest [] d r e = absurd (omega (arith, length-drop at text, ap length d))
     of-rest (x ∷ xs) d r e =
-        let n : size (first bytes x xs) ≡ suc (bytes x xs .more) = first-size bytes-division x xs in
-        let i : q ≡ ruler .step p (first bytes x xs) = e ∙ stepped-plain p x xs r in
+        let n : size (first reader x xs) ≡ suc (reader x xs .more) = first-size reader-division x xs in
+        let i : q ≡ ruler .step p (first reader x xs) = e ∙ stepped-plain p x xs r in
         record {
-          segment = first bytes x xs;
+          segment = first reader x xs;
           place = i;
           bytes-are = ap (λ (r : Place). r .bytes) i;
           units = units-within x xs;
-          inside = omega (arith, n, length-drop at text, ap length d, bytes-division .fits x xs);
-          cuts = rw (← drop-drop (size (first bytes x xs)) at text, d, n) (cut-cons bytes x xs);
+          inside = omega (arith, n, length-drop at text, ap length d, reader-division .fits x xs);
+          cuts = rw (← drop-drop (size (first reader x xs)) at text, d, n) (cut-cons reader x xs);
         }

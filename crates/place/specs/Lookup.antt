@@ -5,8 +5,7 @@ use mathlib.Core.List.{List, [], _∷_}
 use Rattle.division.specs.Place.{Found, at, inside, past, unusable, plain}
 use Rattle.terms.specs.Strict.{limited}
 use Rattle.terms.specs.Told.{refusal}
-use Rattle.utf8.specs.Bytes.{bytes}
-use Rattle.place.specs.Measures.{ruler}
+use Rattle.place.specs.Measures.{ruler, reader}
 use Rattle.place.specs.declared.Place.{Place}
 use Rattle.place.specs.declared.Placed.{Placed}
 use Rattle.place.specs.declared.Placed.the-variants.{At, Refused}
@@ -28,4 +27,4 @@ foundSays (unusable k) = 6 ∷ k ∷ []
 
 -- PLAIN LOOKUP: refusal 2, then the place that counts the offset, 5 where it lies inside a segment, 4 past the end
 abbrev pub lookupSays : (Place → ℕ) → ℕ → List ℕ → List ℕ
-lookupSays measure offset text = limited text (foundSays (plain bytes ruler measure offset text))
+lookupSays measure offset text = limited text (foundSays (plain reader ruler measure offset text))

@@ -3,13 +3,22 @@
 use Prim.Native.Nat.{ℕ, _+_}
 use mathlib.Core.Bool.{cond}
 use lib.Dec.{ltb, eqb}
-use Rattle.division.specs.Reader.{Segment}
+use Rattle.division.specs.Reader.{Reader, Segment}
 use Rattle.division.specs.Table.{Kind}
 use Rattle.division.specs.Tally.{size}
 use Rattle.division.specs.Place.{Ruler}
 use Rattle.terms.specs.Form.{pointOf}
+use Rattle.utf8.specs.Bytes.{bytes}
 use Rattle.utf8.specs.Scalar.{utf8}
 use Rattle.place.specs.declared.Place.{Place}
+
+-- the reader by which places are counted
+abbrev pub reader : Reader Kind
+reader = bytes
+
+-- the most bytes of its segments
+abbrev pub longest : ℕ
+longest = 4
 
 -- a code point is two units exactly if it is 10000 or more; damage is one unit, as U+FFFD is
 abbrev pub unitsOf : Segment Kind → ℕ

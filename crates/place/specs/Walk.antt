@@ -8,8 +8,7 @@ use lib.Dec.{leb, ltb, eqb}
 use Rattle.division.specs.Reader.{first, cut}
 use Rattle.division.specs.Place.{lookup, last}
 use Rattle.terms.specs.Limits.{limit}
-use Rattle.utf8.specs.Bytes.{bytes}
-use Rattle.place.specs.Measures.{place, ruler}
+use Rattle.place.specs.Measures.{place, ruler, reader}
 use Rattle.place.specs.Lookup.{counts, foundSays}
 use Rattle.place.specs.declared.Place.{Place}
 use Rattle.place.specs.declared.Offset.{Offset}
@@ -42,7 +41,7 @@ wrapped p = place (p .bytes % 2 ^ 64) (p .units % 2 ^ 64) (p .points % 2 ^ 64) (
 -- the place one segment behind another, from which on the rest of the text is given; counts are modulo 2^64
 abbrev pub stepped : Place → List ℕ → Place
 stepped p [] = p
-stepped p (x ∷ xs) = wrapped (ruler .step p (first bytes x xs))
+stepped p (x ∷ xs) = wrapped (ruler .step p (first reader x xs))
 
 -- no count can go past the largest number on the way through the rest
 pub record Roomy (p : Place) (rest : List ℕ) : Type 0 where
@@ -55,11 +54,11 @@ pub record Roomy (p : Place) (rest : List ℕ) : Type 0 where
 
 -- plain lookup
 abbrev pub walkSays : (Place → ℕ) → ℕ → Place → List ℕ → List ℕ
-walkSays measure offset from rest = foundSays (lookup (ruler .step) measure offset from (cut bytes rest))
+walkSays measure offset from rest = foundSays (lookup (ruler .step) measure offset from (cut reader rest))
 
 -- the last place whose count is at most `most`
 abbrev pub reached : (Place → ℕ) → ℕ → Place → List ℕ → Place
-reached measure most from rest = last (ruler .step) measure most from (cut bytes rest)
+reached measure most from rest = last (ruler .step) measure most from (cut reader rest)
 
 -- the counts that are not in bytes are within the limit
 abbrev pub fair : Place → Bool

@@ -13,7 +13,7 @@ use Rattle.division.specs.Tally.{total, size, Log}
 use Rattle.division.proofs.Cases.{split}
 use Rattle.division.proofs.Tallying.{store-is}
 use Rattle.terms.specs.Form.{mend}
-use Rattle.terms.specs.Limits.{limit}
+use Rattle.terms.specs.Limits.{limit, entryWidth}
 use Rattle.utf8.specs.Scalar.{utf8}
 use Rattle.pending.specs.Tail.{settledSize}
 use Rattle.tally.specs.Acting.{form, places, numbers, notes, stored, added, Work, work, acted}
@@ -32,7 +32,7 @@ logOf w = logged (w .tally) (take (w .tally .written) (w .out)) (w .list)
 -- there is room for these segments, and no sum goes over the limit
 pub record Ready (room : ℕ) (ss : List (Segment Kind)) (w : Work) : Type 0 where
   pub enough : w .tally .written + need ss ≤ length (w .out)
-  pub row : 2 * room ≤ length (w .list)
+  pub row : entryWidth * room ≤ length (w .list)
   pub sums : w .tally .whole + w .tally .damaged + total size ss ≤ limit
   pub counts : w .tally .count ≤ w .tally .damaged
 
@@ -118,7 +118,7 @@ module _ (room : ℕ) (s : Segment Kind) (ss : List (Segment Kind)) (w : Work) (
         written-is = e;
         same = rw (e) (drop-at front (drop i (w .out)) i front-long);
         long = length-append front (drop i (w .out)) ∙ rw front-long (omega (arith, r .enough, need-is, length-drop i (w .out)));
-        row = rw (store-is numbers 2 room (λ e. refl), length-sets);
+        row = rw (store-is numbers entryWidth room (λ e. refl), length-sets);
         sums = told-sums s t;
         counts = told-counts s t (r .counts) (omega arith);
       }

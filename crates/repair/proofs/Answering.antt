@@ -13,7 +13,7 @@ use Rattle.division.specs.Tally.{total, size, Log}
 use Rattle.division.proofs.Dividing.{total-append, parts-size}
 use Rattle.division.proofs.Tallying.{log-is}
 use Rattle.terms.specs.Form.{mend}
-use Rattle.terms.specs.Limits.{limit}
+use Rattle.terms.specs.Limits.{limit, entryWidth}
 use Rattle.terms.specs.Told.{refusal}
 use Rattle.terms.specs.Writing.{roomed}
 use Rattle.terms.specs.declared.Decoder.{Decoder}
@@ -87,7 +87,7 @@ module _ (d : Decoder) (seg : First) (seam rest list : List ℕ) (p : Rests d se
   all-size = omega (arith, p .sums, total-append size (settled seam) (parts bytes rest .done), parts-size bytes rest)
 
   behind-need : length (behind d seam rest list .kept .out) ≡ need all
-  behind-need = ap (λ (l : Log). length (l .out)) (log-is isDamage (mend utf8) numbers 2 (d .room) (opened d list .kept) all)
+  behind-need = ap (λ (l : Log). length (l .out)) (log-is isDamage (mend utf8) numbers entryWidth (d .room) (opened d list .kept) all)
 
   needed-is : neededFor seg rest ≡ length (behind d seam rest list .kept .out)
   needed-is = omega (arith, behind-need, all-need, need-small all, all-size)

@@ -14,7 +14,7 @@ use Rattle.division.specs.Table.{Kind, whole, damage, isDamage}
 use Rattle.division.specs.Tally.{Log}
 use Rattle.division.proofs.Cases.{split}
 use Rattle.division.proofs.Dividing.{cut-nil, cut-pending}
-use Rattle.terms.specs.Limits.{limit, freshOf}
+use Rattle.terms.specs.Limits.{freshOf, mostPending}
 use Rattle.terms.specs.Told.{refusal}
 use Rattle.terms.specs.declared.Decoder.{Decoder}
 use Rattle.terms.specs.declared.First.{First}
@@ -24,12 +24,12 @@ use Rattle.terms.proofs.Telling.{no-zero}
 use Rattle.utf8.specs.Bytes.{bytes}
 use Rattle.utf8.proofs.Rows.{bytes-division, bytes-hold, whole-sure}
 use Rattle.pending.specs.Tail.{settledSize}
-use Rattle.soundness.specs.Checks.{admitted, admitSays}
+use Rattle.soundness.specs.Checks.{admitSays}
 use Rattle.soundness.proofs.Testing.{Sound, sound-is}
 use Rattle.soundness.proofs.Admitting.{Admits, admits, admitted-then, refused-so}
 use Rattle.tally.specs.Acting.{form, places, notes, stored, added, Work, work, acted}
 use Rattle.tally.proofs.Fitting.{Fits, acted-is}
-use Rattle.repair.specs.State.{left, sound, act, opened, ended}
+use Rattle.repair.specs.State.{left, act, opened, ended}
 use Rattle.repair.specs.Feeding.{finishSays, Finishes}
 use Rattle.repair.specs.Steps.{tallyOf, lastOf}
 use Rattle.repair.specs.declared.Total.the-variants.{Given, Refused}
@@ -65,7 +65,7 @@ last-acts d list [] p = rw cut-nil
 last-acts d list (x ∷ xs) p =
     let e : bytes x xs .sure ≡ false = not-true (bytes x xs .sure) p in
     let n : eqb (length (x ∷ xs)) 0 ≡ false = ne-eqb (length (x ∷ xs)) 0 (λ z. omega (arith, z)) in
-    rw (cut-pending bytes-division 3 bytes-hold x xs e, pending-damage x xs e, n, add-zero)
+    rw (cut-pending bytes-division mostPending bytes-hold x xs e, pending-damage x xs e, n, add-zero)
 
 last-size : (n : ℕ) → settledSize (lastOf n) ≡ n
 last-size n = split (eqb n 0) (λ e. rw e (sym (eqb-true n 0 e))) (λ e. rw e)
@@ -86,20 +86,14 @@ abbrev saysOf : Log → List ℕ → List ℕ
 saysOf l out =
     cond (ltb (length out) (length (l .out))) (3 ∷ length (l .out) ∷ []) (0 ∷ length (l .out) ∷ l .whole ∷ l .damaged ∷ l .count ∷ [])
 
--- no byte more is taken, so that refusal 2 is never given
-checks-are : (d : Decoder) (out list : List ℕ) → admitted d 0 (length list) (saysOf (ended d list) out) ≡ finishSays d out list
-checks-are d out list = split (sound d)
-    (λ s. let b = sound-is d s .numbers in rw (s, le-ltb limit (d .taken + 0) (omega (arith, b .within))))
-    (λ s. rw s)
-
 module _ (d : Decoder) (out list : List ℕ) where
   finish-so : (r : Refusal) → refusal r ≡ finishSays d out list → Finishes d out list out list (record { answer = Refused r; state = d })
   finish-so r e = record { answer = e; state = rw (← e, no-zero r); output = rw (← e, no-zero r); entries = rw (← e, no-zero r) }
 
   pub finish-refused : (r : Refusal) → refusal r ≡ admitSays d 0 (length list) → Finishes d out list out list (record { answer = Refused r; state = d })
-  finish-refused r q = finish-so r (refused-so d 0 (length list) r q (saysOf (ended d list) out) ∙ checks-are d out list)
+  finish-refused r q = finish-so r (refused-so d 0 (length list) r q (saysOf (ended d list) out))
 
-  module _ (three : length (d .held) ≡ 3) (g : admitSays d 0 (length list) ≡ 0 ∷ []) where
+  module _ (three : length (d .held) ≡ mostPending) (g : admitSays d 0 (length list) ≡ 0 ∷ []) where
     granted : Admits d 0 (length list)
     granted = admits d 0 (length list) (sym g)
 
@@ -110,10 +104,10 @@ module _ (d : Decoder) (out list : List ℕ) where
     seg = lastOf (d .pending)
 
     ended-is : ended d list ≡ logAs d list seg
-    ended-is = last-acts d list (left d) (passes .begins) ∙ rw (left-long d three passes)
+    ended-is = last-acts d list (left d) (passes .tail .begins) ∙ rw (left-long d three passes)
 
     says-is : finishSays d out list ≡ saysOf (logAs d list seg) out
-    says-is = sym (checks-are d out list) ∙ admitted-then d 0 (length list) (saysOf (ended d list) out) granted ∙ rw ended-is
+    says-is = admitted-then d 0 (length list) (saysOf (ended d list) out) granted ∙ rw ended-is
 
     pub finish-short : length out < places seg → Finishes d out list out list (record { answer = Refused (NoRoom (places seg)); state = d })
     finish-short h =
@@ -125,7 +119,7 @@ module _ (d : Decoder) (out list : List ℕ) where
     last-fits h =
         let b = passes .numbers in
         record {
-          inside = omega (arith, last-size (d .pending), passes .few, three);
+          inside = omega (arith, last-size (d .pending), passes .tail .few, three);
           enough = omega (arith, h);
           list = granted .list;
           sums = omega (arith, last-size (d .pending), b .sum, b .within);

@@ -10,7 +10,7 @@ use Rattle.division.specs.Reader.{Parts}
 use Rattle.division.specs.Stream.{State}
 use Rattle.division.specs.Table.{Kind}
 use Rattle.division.specs.Tally.{total, size, Log}
-use Rattle.terms.specs.Limits.{limit}
+use Rattle.terms.specs.Limits.{limit, mostPending}
 use Rattle.terms.specs.Told.{first, firstSays}
 use Rattle.terms.specs.declared.Decoder.{Decoder}
 use Rattle.terms.specs.declared.First.{First}
@@ -24,8 +24,8 @@ use Rattle.repair.specs.State.{left, act, opened, fed}
 use Rattle.repair.specs.Steps.{Rests, behind}
 
 -- the pending bytes of a state that passes its tests
-pub left-long : (d : Decoder) → length (d .held) ≡ 3 → Sound d → length (left d) ≡ d .pending
-left-long d three s = length-take-le (d .pending) (d .held) (omega (arith, three, s .few))
+pub left-long : (d : Decoder) → length (d .held) ≡ mostPending → Sound d → length (left d) ≡ d .pending
+left-long d three s = length-take-le (d .pending) (d .held) (omega (arith, three, s .tail .few))
 
 -- the stream of a state, from the parts of its text
 abbrev streamed : Decoder → List ℕ → Parts Kind → State Log
@@ -46,21 +46,21 @@ module _ (d : Decoder) (piece list seam : List ℕ) (g : admitSays d (length pie
 
   -- nothing is settled: all of it is pending
   pub join-none : taken ≡ 0 → fed d piece list ≡ record { left = seam; kept = opened d list .kept }
-  join-none z = ap (streamed d list) (seam-pending (left d) piece (passes .begins) (rw seam-is at z)) ∙ rw (← seam-is)
+  join-none z = ap (streamed d list) (seam-pending (left d) piece (passes .tail .begins) (rw seam-is at z)) ∙ rw (← seam-is)
 
   -- the segment at the seam is settled
-  module _ (three : length (d .held) ≡ 3) (some : taken ≡ 0 → ⊥) where
+  module _ (three : length (d .held) ≡ mostPending) (some : taken ≡ 0 → ⊥) where
     long : length (left d) ≡ d .pending
     long = left-long d three passes
 
     pub join-over : d .pending ≤ taken
-    join-over = rw (← long, seam-is) (seam-over (left d) piece (passes .begins) (rw seam-is at some))
+    join-over = rw (← long, seam-is) (seam-over (left d) piece (passes .tail .begins) (rw seam-is at some))
 
     pub join-inside : taken - d .pending ≤ length piece
-    join-inside = rw (← long, seam-is) (seam-inside (left d) piece (passes .begins) (rw seam-is at some))
+    join-inside = rw (← long, seam-is) (seam-inside (left d) piece (passes .tail .begins) (rw seam-is at some))
 
     pub join-behind : fed d piece list ≡ behind d seam (drop (taken - d .pending) piece) list
-    join-behind = ap (streamed d list) (seam-behind (left d) piece (passes .begins) (rw seam-is at some)) ∙ rw (long, seam-is)
+    join-behind = ap (streamed d list) (seam-behind (left d) piece (passes .tail .begins) (rw seam-is at some)) ∙ rw (long, seam-is)
 
     pub join-rests : (seg : First) → first seg ≡ firstSays bytes seam → Rests d seg seam (drop (taken - d .pending) piece) list
     join-rests seg e =

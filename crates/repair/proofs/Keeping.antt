@@ -1,7 +1,7 @@
--- What a feed keeps, apart from the list: how much it writes, the state that it hands back, and the state of pieces one by one.
+-- What a feed keeps, apart from the list: the state that it hands back, and the state of pieces one by one.
 -- Assumes nothing.
 use mathlib.Core.Path.{_≡_, refl, sym, ap, _∙_}
-use Prim.Native.Nat.{ℕ, zero, suc, _+_, _*_, _≤_}
+use Prim.Native.Nat.{ℕ, zero, suc, _+_, _≤_}
 use native.Mathlib.Nat.{add-zero}
 use mathlib.Core.Bool.{true}
 use mathlib.Core.List.{List, [], _∷_, _++_, append-nil}
@@ -13,19 +13,17 @@ use Rattle.division.specs.Reader.{Segment, parts}
 use Rattle.division.specs.Table.{Kind, isDamage}
 use Rattle.division.specs.Tally.{total, wholeOf, damagedOf, countOf, Log}
 use Rattle.division.proofs.Cases.{both}
-use Rattle.division.proofs.Dividing.{total-append, parts-append, parts-pending, left-pending, parts-size}
+use Rattle.division.proofs.Dividing.{total-append, parts-append, parts-pending, parts-size}
 use Rattle.division.proofs.Tallying.{whole-damaged, count-damaged, damaged-count, log-is}
 use Rattle.terms.specs.Form.{mend}
-use Rattle.terms.specs.Limits.{limit}
+use Rattle.terms.specs.Limits.{limit, entryWidth, mostPending, mostDamaged, unheld}
 use Rattle.terms.specs.declared.Decoder.{Decoder}
 use Rattle.utf8.specs.Bytes.{bytes}
 use Rattle.utf8.specs.Pending.{zeros, padded}
 use Rattle.utf8.specs.Scalar.{utf8}
 use Rattle.utf8.proofs.Rows.{bytes-division, damage-short}
-use Rattle.pending.proofs.Settling.{left-short}
-use Rattle.pending.proofs.Holding.{held-back, held-zeros}
+use Rattle.pending.proofs.Settling.{left-kept, left-tail}
 use Rattle.soundness.proofs.Testing.{Sound, is-sound}
-use Rattle.settling.proofs.Spanning.{parts-small}
 use Rattle.repair.specs.State.{left, sound, numbers, opened, fed, closed}
 use Rattle.repair.proofs.Joining.{left-long}
 
@@ -45,17 +43,11 @@ grown d taken text = record {
 pub closed-is : (d : Decoder) (taken : ℕ) (piece list : List ℕ) → closed d taken (fed d piece list) ≡ grown d taken (left d ++ piece)
 closed-is d taken piece list =
     ap (λ (l : Log). closed d taken (record { left = parts bytes (left d ++ piece) .left; kept = l }))
-    (log-is isDamage (mend utf8) numbers 2 (d .room) (opened d list .kept) (parts bytes (left d ++ piece) .done))
-
--- and writes at most three places for each byte
-pub fed-small : (d : Decoder) (piece list : List ℕ) → length (fed d piece list .kept .out) ≤ 3 * (length (left d) + length piece)
-fed-small d piece list =
-    rw (log-is isDamage (mend utf8) numbers 2 (d .room) (opened d list .kept) (parts bytes (left d ++ piece) .done), ← length-append)
-    (parts-small (left d ++ piece))
+    (log-is isDamage (mend utf8) numbers entryWidth (d .room) (opened d list .kept) (parts bytes (left d ++ piece) .done))
 
 -- ---- the tests
 
-module _ (d : Decoder) (three : length (d .held) ≡ 3) (s : Sound d) where
+module _ (d : Decoder) (three : length (d .held) ≡ mostPending) (s : Sound d) where
   -- a feed within the limit hands back a state that passes them
   pub grown-sound : (piece : List ℕ) → d .taken + length piece ≤ limit → sound (grown d (d .taken + length piece) (left d ++ piece)) ≡ true
   grown-sound piece within =
@@ -63,14 +55,12 @@ module _ (d : Decoder) (three : length (d .held) ≡ 3) (s : Sound d) where
       let n = s .numbers in
       let done = parts bytes text .done in
       is-sound (grown d (d .taken + length piece) text) (record {
-        few = left-short text;
-        begins = rw (held-back (parts bytes text .left) (left-short text)) (left-pending bytes text);
-        unused = held-zeros (parts bytes text .left) (left-short text);
+        tail = left-tail text;
         numbers = record {
           sum = omega (arith, n .sum, whole-damaged isDamage done, parts-size bytes text, length-append (left d) piece, left-long d three s);
           within = within;
           low = omega (arith, n .low, count-damaged isDamage done);
-          high = omega (arith, n .high, damaged-count isDamage bytes-division 3 damage-short text);
+          high = omega (arith, n .high, damaged-count isDamage bytes-division mostDamaged damage-short text);
           roomy = n .roomy;
         };
       })
@@ -85,7 +75,7 @@ pub grown-append : (d : Decoder) (t taken : ℕ) (text piece : List ℕ)
     → grown (grown d t text) taken (left (grown d t text) ++ piece) ≡ grown d taken (text ++ piece)
 grown-append d t taken text piece =
     rw (
-      held-back (parts bytes text .left) (left-short text),
+      left-kept text,
       parts-append bytes-division text piece,
       more (wholeOf isDamage),
       more (damagedOf isDamage),
@@ -109,9 +99,9 @@ other-zeros (x ∷ held) zero (y ∷ row) z w l =
 other-zeros (x ∷ held) (suc n) row z w l = ap (λ (r : List ℕ). x ∷ r) (other-zeros held n row z w (omega arith))
 
 -- an empty piece changes nothing
-pub grown-nothing : (d : Decoder) → length (d .held) ≡ 3 → Sound d → grown d (d .taken) (left d ++ []) ≡ d
+pub grown-nothing : (d : Decoder) → length (d .held) ≡ mostPending → Sound d → grown d (d .taken) (left d ++ []) ≡ d
 grown-nothing d three s =
-    let row : List ℕ = 0 ∷ 0 ∷ 0 ∷ [] in
+    let row : List ℕ = unheld in
     let same : padded (left d) ≡ d .held
-    = ap (λ (n : ℕ). take n (left d ++ row)) (sym three) ∙ other-zeros (d .held) (d .pending) row (s .unused) refl (omega (arith, three)) in
-    rw (append-nil, parts-pending bytes (left d) (s .begins), same, left-long d three s) (simp add-zero)
+    = ap (λ (n : ℕ). take n (left d ++ row)) (sym three) ∙ other-zeros (d .held) (d .pending) row (s .tail .unused) refl (omega (arith, three)) in
+    rw (append-nil, parts-pending bytes (left d) (s .tail .begins), same, left-long d three s) (simp add-zero)

@@ -2,7 +2,9 @@ pub mod Acting
 pub mod Answering
 pub mod Joining
 pub mod Finishing
-pub mod Calling
+pub mod AnyCutting
 pub mod Taking
 pub mod Keeping
 pub mod Telling
+pub mod Once
+pub mod Enough

@@ -5,13 +5,13 @@ use Prim.Native.Nat.{ℕ, _+_, _≤_}
 use mathlib.Core.List.{List, [], _∷_}
 use lib.ListN.{length, getD}
 use Rattle.terms.specs.Limits.{limit}
-use Rattle.terms.specs.Told.{written, ifGranted}
+use Rattle.terms.specs.Told.{written, isGranted, ifGranted}
 use Rattle.terms.specs.declared.Decoder.{Decoder}
 use Rattle.terms.specs.declared.Written.the-variants.{Count}
 use Rattle.repair.specs.State.{fed, closed}
 use Rattle.repair.specs.Feeding.{feedSays, Feeds}
 use Rattle.repair.specs.declared.Fed.{Fed}
-use Rattle.repair.proofs.Calling.{isGranted, feed-grants}
+use Rattle.repair.proofs.AnyCutting.{feed-grants}
 
 module _ {d : Decoder} {piece out list out′ list′ : List ℕ} {r : Fed} (f : Feeds d piece out list out′ list′ r) (n : ℕ) (e : r .answer ≡ Count n) where
   says : feedSays d piece out list ≡ 0 ∷ n ∷ []
@@ -31,4 +31,4 @@ module _ {d : Decoder} {piece out list out′ list′ : List ℕ} {r : Fed} (f :
   granted =
       let g = feed-grants d piece out list (ap isGranted says) in
       let m : n ≡ length (fed d piece list .kept .out) = ap (λ (l : List ℕ). getD l 1 0) (sym says ∙ g .says) in
-      record { within = g .within; fits = rw m (g .fits) }
+      record { within = g .admits .within; fits = rw m (g .fits) }

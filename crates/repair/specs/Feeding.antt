@@ -1,16 +1,17 @@
 -- Start, feed and finish: what they answer, the state that they hand back, and what the lent output and list then hold.
 -- Assumes nothing.
 use mathlib.Core.Path.{_≡_}
-use Prim.Native.Nat.{ℕ, _+_, _*_}
+use Prim.Native.Nat.{ℕ, _+_}
 use mathlib.Core.Bool.{cond}
 use mathlib.Core.List.{List, [], _∷_}
 use lib.ListN.{length}
 use lib.Dec.{ltb}
-use Rattle.terms.specs.Limits.{limit, mostRoom, freshOf}
+use Rattle.terms.specs.Limits.{mostRoom, freshOf}
 use Rattle.terms.specs.Told.{refusal, written, ifGranted}
 use Rattle.terms.specs.Writing.{roomed, outputOf}
 use Rattle.terms.specs.declared.Decoder.{Decoder}
-use Rattle.repair.specs.State.{sound, fed, ended, closed}
+use Rattle.soundness.specs.Checks.{admitted}
+use Rattle.repair.specs.State.{fed, ended, closed}
 use Rattle.repair.specs.declared.Begun.{Begun}
 use Rattle.repair.specs.declared.Begun.the-variants as the-begun
 use Rattle.repair.specs.declared.Total.{Total}
@@ -39,12 +40,7 @@ pub record Starts (room : ℕ) (r : Started) : Type 0 where
 -- ---- FEED: refusal 8, 2, 7, 3 in this order; then everything that is settled is written in repaired form
 
 abbrev pub feedSays : Decoder → List ℕ → List ℕ → List ℕ → List ℕ
-feedSays d piece out list =
-    cond (sound d)
-    (cond (ltb limit (d .taken + length piece)) (2 ∷ [])
-    (cond (ltb (length list) (2 * d .room)) (7 ∷ [])
-    (roomed (length out) (fed d piece list .kept .out))))
-    (8 ∷ [])
+feedSays d piece out list = admitted d (length piece) (length list) (roomed (length out) (fed d piece list .kept .out))
 
 pub record Feeds (d : Decoder) (piece out list out′ list′ : List ℕ) (r : Fed) : Type 0 where
   pub answer : written (r .answer) ≡ feedSays d piece out list
@@ -57,11 +53,9 @@ pub record Feeds (d : Decoder) (piece out list out′ list′ : List ℕ) (r : F
 abbrev pub finishSays : Decoder → List ℕ → List ℕ → List ℕ
 finishSays d out list =
     let l = ended d list in
-    cond (sound d)
-    (cond (ltb (length list) (2 * d .room)) (7 ∷ [])
+    admitted d 0 (length list)
     (cond (ltb (length out) (length (l .out))) (3 ∷ length (l .out) ∷ [])
-    (0 ∷ length (l .out) ∷ l .whole ∷ l .damaged ∷ l .count ∷ [])))
-    (8 ∷ [])
+    (0 ∷ length (l .out) ∷ l .whole ∷ l .damaged ∷ l .count ∷ []))
 
 pub record Finishes (d : Decoder) (out list out′ list′ : List ℕ) (r : Finished) : Type 0 where
   pub answer : total (r .answer) ≡ finishSays d out list

@@ -9,6 +9,7 @@ use Rattle.division.specs.Tally.{Log, log}
 use Rattle.division.specs.Stream as stream
 use Rattle.division.specs.Table.{Kind, isDamage}
 use Rattle.terms.specs.Form.{mend}
+use Rattle.terms.specs.Limits.{entryWidth}
 use Rattle.terms.specs.declared.Decoder.{Decoder}
 use Rattle.utf8.specs.Bytes.{bytes}
 use Rattle.utf8.specs.Pending.{padded}
@@ -18,7 +19,7 @@ pub use Rattle.tally.specs.Acting.{numbers}
 
 -- what one segment does to the totals, the output and the list
 abbrev pub act : ℕ → Log → Segment Kind → Log
-act room = log isDamage (mend utf8) numbers 2 room
+act room = log isDamage (mend utf8) numbers entryWidth room
 
 -- the state as a stream's: what is pending, and what is kept, with an output that is empty yet
 abbrev pub opened : Decoder → List ℕ → State Log

@@ -9,7 +9,7 @@ use lib.Dec.{eqb}
 use Rattle.division.specs.Reader.{parts}
 use Rattle.division.specs.Stream.{State}
 use Rattle.division.specs.Tally.{total, size, Log}
-use Rattle.terms.specs.Limits.{limit}
+use Rattle.terms.specs.Limits.{limit, entryWidth}
 use Rattle.terms.specs.Told.{first, firstSays, ifGranted}
 use Rattle.terms.specs.Told as told
 use Rattle.terms.specs.Writing.{roomed, outputOf}
@@ -43,7 +43,7 @@ pub record Rests (d : Decoder) (seg : First) (seam rest list : List ℕ) : Type 
   pub tells : first seg ≡ firstSays bytes seam
   pub sums : d .whole + d .damaged + total size (settled seam) + length rest ≤ limit
   pub counts : d .count ≤ d .damaged
-  pub row : 2 * d .room ≤ length list
+  pub row : entryWidth * d .room ≤ length list
 
 -- the stream behind them
 abbrev pub behind : Decoder → List ℕ → List ℕ → List ℕ → State Log

@@ -13,6 +13,7 @@ ghost use Rattle.pending.specs.Tail.{four};
 ghost use Rattle.soundness.specs.Checks.{admitSays};
 ghost use Rattle.repair.specs.State.{left, fed};
 ghost use Rattle.repair.specs.Feeding.{Starts, Feeds, Finishes};
+ghost use Rattle.repair.specs.Room.{mostFed};
 ghost use Rattle.repair.specs.Steps as steps;
 
 // The state of a start, and whether its room was refused.
@@ -193,6 +194,17 @@ pub fn start(room: usize) -> Started
         answer: Begun::Ready,
         state: Decoder::fresh(room),
     }
+}
+
+// The most places that a feed of so many bytes can need, whatever is pending; finish needs no more than a feed of no bytes.
+pub fn most(n: usize) -> usize
+    ensures { λ r. ⌜ r ≡ mostFed n ⌝ }
+{
+    let each = tally::places(First::Damage(1));
+    if Decoder::LIMIT < n {
+        return each * (Decoder::LIMIT + 1);
+    }
+    each * (n + 1)
 }
 
 // Feeds a piece: everything that is settled is written in repaired form, and the damages among it are entered in the list.

@@ -8,6 +8,7 @@ use terms::Written;
 ghost use mathlib.Core.Path.{_≡_};
 ghost use Prim.Native.Nat.{_≤_};
 ghost use lib.ListN.{length};
+ghost use Rattle.repair.specs.Room.{mostFed};
 ghost use Rattle.report.specs.Going.{Goes};
 
 // How the input stands: there may be more, or it ended in one way or another.
@@ -33,11 +34,11 @@ fn number(n: usize) {
     io::print_decimal(STDOUT_FILENO, n as u64);
 }
 
-// Places for what a piece of 65,536 bytes, with 3 that are pending, needs at most.
-fn most_places() -> [u8; 196617]
-    ensures { λ r. ⌜ 196617 ≡ length r ⌝ }
+// The most places that a feed of 65,536 bytes can need.
+fn most_places() -> [u8; 196611]
+    ensures { λ r. ⌜ mostFed 65536 ≡ length r ⌝ }
 {
-    [0; 196617]
+    [0; 196611]
 }
 
 // Feeds the next bytes of the input to the decoder, as many as the piece holds.
@@ -101,12 +102,12 @@ fn least(a: usize, b: usize) -> usize
 
 // The stored entries, a line for each.
 fn entries(list: &[u32], count: usize) {
-    let n = least(count, list.len() / 2);
+    let n = least(count, list.len() / Decoder::ENTRY);
     let mut i: usize = 0;
     while i < n {
         put(b"damage");
-        number(wide(list[2 * i]));
-        number(wide(list[2 * i + 1]));
+        number(wide(list[Decoder::ENTRY * i]));
+        number(wide(list[Decoder::ENTRY * i + 1]));
         put(b"\n");
         i += 1;
     }

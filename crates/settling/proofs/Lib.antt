@@ -1,3 +1,4 @@
 pub mod Spanning
 pub mod Reading
 pub mod Walking
+pub mod Once

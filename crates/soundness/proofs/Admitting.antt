@@ -4,15 +4,15 @@ use mathlib.Core.Path.{_≡_, sym, ap, _∙_}
 use Prim.Native.Nat.{ℕ, _+_, _*_, _≤_, _<_}
 use mathlib.Core.Bool.{true, false, true≢false}
 use mathlib.Core.List.{List, [], _∷_}
-use lib.ListN.{getD}
-use lib.Dec.{ltb, eqb}
+use lib.Dec.{ltb}
 use borrow.Author.Tests.{lt-ltb, le-ltb, ltb-false}
 use Rattle.division.proofs.Cases.{split}
-use Rattle.terms.specs.Limits.{limit}
-use Rattle.terms.specs.Told.{refusal}
+use Rattle.terms.specs.Limits.{limit, entryWidth}
+use Rattle.terms.specs.Told.{refusal, isGranted}
 use Rattle.terms.specs.declared.Decoder.{Decoder}
 use Rattle.terms.specs.declared.Refusal.{Refusal}
 use Rattle.terms.proofs.Telling.{no-zero}
+use Rattle.terms.proofs.Tested.{tested-unsound, tested-over, tested-then, granted-passed}
 use Rattle.soundness.specs.Tests.{sound}
 use Rattle.soundness.specs.Checks.{admitted, admitSays}
 
@@ -20,38 +20,39 @@ use Rattle.soundness.specs.Checks.{admitted, admitSays}
 pub record Admits (d : Decoder) (more row : ℕ) : Type 0 where
   pub tests : sound d ≡ true
   pub within : d .taken + more ≤ limit
-  pub list : 2 * d .room ≤ row
+  pub list : entryWidth * d .room ≤ row
 
 module _ (d : Decoder) (more row : ℕ) where
   pub admitted-unsound : (says : List ℕ) → sound d ≡ false → 8 ∷ [] ≡ admitted d more row says
-  admitted-unsound says s = rw s
+  admitted-unsound says = tested-unsound (sound d) (d .taken) more _
 
   pub admitted-over : (says : List ℕ) → sound d ≡ true → limit < d .taken + more → 2 ∷ [] ≡ admitted d more row says
-  admitted-over says s h = rw (s, lt-ltb limit (d .taken + more) h)
+  admitted-over says = tested-over (sound d) (d .taken) more _
 
-  pub admitted-list : (says : List ℕ) → sound d ≡ true → d .taken + more ≤ limit → row < 2 * d .room → 7 ∷ [] ≡ admitted d more row says
-  admitted-list says s h k = rw (s, le-ltb limit (d .taken + more) h, lt-ltb row (2 * d .room) k)
+  pub admitted-list : (says : List ℕ) → sound d ≡ true → d .taken + more ≤ limit → row < entryWidth * d .room → 7 ∷ [] ≡ admitted d more row says
+  admitted-list says s h k = sym (tested-then (sound d) (d .taken) more _ s h ∙ rw (lt-ltb row (entryWidth * d .room) k))
 
   -- then the call has its say
   pub admitted-then : (says : List ℕ) → Admits d more row → admitted d more row says ≡ says
-  admitted-then says a = rw (a .tests, le-ltb limit (d .taken + more) (a .within), le-ltb row (2 * d .room) (a .list))
+  admitted-then says a = tested-then (sound d) (d .taken) more _ (a .tests) (a .within) ∙ rw (le-ltb row (entryWidth * d .room) (a .list))
 
-  -- what was granted has passed each check
+  -- what was granted has passed each check, and the call grants it
+  pub granted-admits : (says : List ℕ) → isGranted (admitted d more row says) ≡ true → Admits d more row × (isGranted says ≡ true)
+  granted-admits says g =
+      let p = granted-passed (sound d) (d .taken) more _ g in
+      split (ltb row (entryWidth * d .room))
+      (λ k. absurd (true≢false (sym (rw k at (p .grants)))))
+      (λ k. (record { tests = p .tests; within = p .within; list = ltb-false row (entryWidth * d .room) k }, rw k at (p .grants)))
+
   pub admits : 0 ∷ [] ≡ admitSays d more row → Admits d more row
-  admits e = split (sound d)
-      (λ s. split (ltb limit (d .taken + more))
-      (λ o. let q : 0 ∷ [] ≡ 2 ∷ [] = rw (s, o) at e in absurd (true≢false (ap (λ (l : List ℕ). eqb (getD l 0 0) 0) q)))
-      (λ o. split (ltb row (2 * d .room))
-      (λ k. let q : 0 ∷ [] ≡ 7 ∷ [] = rw (s, o, k) at e in absurd (true≢false (ap (λ (l : List ℕ). eqb (getD l 0 0) 0) q)))
-      (λ k. record { tests = s; within = ltb-false limit (d .taken + more) o; list = ltb-false row (2 * d .room) k })))
-      (λ s. let q : 0 ∷ [] ≡ 8 ∷ [] = rw s at e in absurd (true≢false (ap (λ (l : List ℕ). eqb (getD l 0 0) 0) q)))
+  admits e = granted-admits (0 ∷ []) (ap isGranted (sym e)) .0
 
   -- and what was refused is refused whatever the call would say
   pub refused-so : (r : Refusal) → refusal r ≡ admitSays d more row → (says : List ℕ) → refusal r ≡ admitted d more row says
   refused-so r e says = split (sound d)
       (λ s. split (ltb limit (d .taken + more))
       (λ o. rw (s, o) at e ∙ rw (s, o))
-      (λ o. split (ltb row (2 * d .room))
+      (λ o. split (ltb row (entryWidth * d .room))
       (λ k. rw (s, o, k) at e ∙ rw (s, o, k))
-      (λ k. let q : refusal r ≡ 0 ∷ [] = rw (s, o, k) at e in absurd (true≢false (sym (ap (λ (l : List ℕ). eqb (getD l 0 0) 0) q) ∙ no-zero r)))))
+      (λ k. let q : refusal r ≡ 0 ∷ [] = rw (s, o, k) at e in absurd (true≢false (sym (ap isGranted q) ∙ no-zero r)))))
       (λ s. rw s at e ∙ rw s)

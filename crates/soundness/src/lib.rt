@@ -31,7 +31,7 @@ fn is_balanced(state: Decoder) -> bool
     if state.damaged < state.count {
         return false;
     }
-    if 3 * state.count < state.damaged {
+    if Decoder::DAMAGE * state.count < state.damaged {
         return false;
     }
     state.room <= Decoder::ROOM
@@ -58,7 +58,7 @@ pub fn admit(state: Decoder, more: usize, row: usize) -> Admission
     if Decoder::LIMIT - state.taken < more {
         return Admission::Refused(Refusal::OverLimit);
     }
-    if row < 2 * state.room {
+    if row < Decoder::ENTRY * state.room {
         return Admission::Refused(Refusal::ListRoom);
     }
     Admission::Granted

@@ -11,7 +11,7 @@ use lib.Dec.{leb}
 use borrow.Author.Tests.{leb-true, le-leb}
 use native.Mathlib.Omega.{arith}
 use Rattle.division.proofs.Cases.{split, both}
-use Rattle.terms.specs.Limits.{limit}
+use Rattle.terms.specs.Limits.{limit, entryWidth}
 use Rattle.terms.specs.declared.First.{First}
 use Rattle.terms.specs.declared.First.the-variants.{Nothing, Whole, Damage, Begun}
 use Rattle.terms.proofs.Walking.{part-is}
@@ -26,7 +26,7 @@ module _ (room : ℕ) (seg : First) (t : Tally) (text out row : ℕ) where
   pub record Fits : Type 0 where
     pub inside : settledSize seg ≤ text
     pub enough : t .written + places seg ≤ out
-    pub list : 2 * room ≤ row
+    pub list : entryWidth * room ≤ row
     pub sums : t .whole + t .damaged + settledSize seg ≤ limit
     pub counts : t .count ≤ t .damaged
 
@@ -34,7 +34,7 @@ module _ (room : ℕ) (seg : First) (t : Tally) (text out row : ℕ) where
   fits-is e =
       let a = both _ (leb (t .count) (t .damaged)) e in
       let b = both _ (leb (t .whole + t .damaged + settledSize seg) limit) (a .0) in
-      let g = both _ (leb (2 * room) row) (b .0) in
+      let g = both _ (leb (entryWidth * room) row) (b .0) in
       let h = both (leb (settledSize seg) text) (leb (t .written + places seg) out) (g .0) in
       record {
         inside = leb-true _ _ (h .0);
@@ -48,13 +48,13 @@ module _ (room : ℕ) (seg : First) (t : Tally) (text out row : ℕ) where
   unfit f = split (fits room seg t text out row) (λ e. absurd (f (fits-is e))) (λ e. sym e)
 
   -- once the others hold, the count decides
-  pub fits-count : settledSize seg ≤ text → t .written + places seg ≤ out → 2 * room ≤ row → t .whole + t .damaged + settledSize seg ≤ limit
+  pub fits-count : settledSize seg ≤ text → t .written + places seg ≤ out → entryWidth * room ≤ row → t .whole + t .damaged + settledSize seg ≤ limit
       → leb (t .count) (t .damaged) ≡ fits room seg t text out row
   fits-count i e l s =
       rw (
         le-leb (settledSize seg) text i,
         le-leb (t .written + places seg) out e,
-        le-leb (2 * room) row l,
+        le-leb (entryWidth * room) row l,
         le-leb (t .whole + t .damaged + settledSize seg) limit s,
       )
 

@@ -8,7 +8,7 @@ use lib.Dec.{leb}
 use Rattle.division.specs.Table.{Kind, damage}
 use Rattle.division.specs.Tally.{Entry, store}
 use Rattle.terms.specs.Form.{replacement}
-use Rattle.terms.specs.Limits.{limit}
+use Rattle.terms.specs.Limits.{limit, entryWidth}
 use Rattle.terms.specs.declared.First.{First}
 use Rattle.terms.specs.declared.First.the-variants.{Nothing, Whole, Damage, Begun}
 use Rattle.utf8.specs.Scalar.{utf8}
@@ -44,7 +44,7 @@ notes (Begun n) start = []
 
 -- the list with these entries behind the first i
 abbrev pub stored : ℕ → List ℕ → ℕ → List (Entry Kind) → List ℕ
-stored room = store numbers 2 room
+stored room = store numbers entryWidth room
 
 -- what it adds to a tally
 abbrev pub added : First → Tally → Tally
@@ -59,7 +59,7 @@ abbrev pub fits : ℕ → First → Tally → ℕ → ℕ → ℕ → Bool
 fits room seg t text out row =
     leb (settledSize seg) text
     && leb (t .written + places seg) out
-    && leb (2 * room) row
+    && leb (entryWidth * room) row
     && leb (t .whole + t .damaged + settledSize seg) limit
     && leb (t .count) (t .damaged)
 

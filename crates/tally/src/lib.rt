@@ -5,7 +5,7 @@ ghost use mathlib.Core.Path.{_≡_};
 ghost use Prim.Native.Nat.{_+_, _*_, _^_, _≤_, _<_};
 ghost use mathlib.Core.List.{_++_};
 ghost use lib.ListN.{length, drop};
-ghost use Rattle.terms.specs.Limits.{limit};
+ghost use Rattle.terms.specs.Limits.{limit, entryWidth};
 ghost use Rattle.pending.specs.Tail.{settledSize};
 ghost use Rattle.tally.specs.Acting as acting;
 
@@ -44,7 +44,7 @@ fn put(seg: First, text: &[u8], out: &mut [u8])
 
 // The entry of a damage, behind those that are counted, where the list has room for it.
 fn note(seg: First, tally: Tally, room: usize, list: &mut [u32])
-    requires { ⌜ (2 * room ≤ length (now list)) × (tally .whole + tally .damaged + settledSize seg ≤ limit) ⌝ }
+    requires { ⌜ (entryWidth * room ≤ length (now list)) × (tally .whole + tally .damaged + settledSize seg ≤ limit) ⌝ }
     ensures { λ r. ⌜ now (list .exit) ≡ acting.stored room (now (list .entry)) (tally .count) (acting.notes seg (tally .whole + tally .damaged)) ⌝ }
 {
     match seg {
@@ -54,7 +54,7 @@ fn note(seg: First, tally: Tally, room: usize, list: &mut [u32])
             if room <= tally.count {
                 return;
             }
-            let at = 2 * tally.count;
+            let at = Decoder::ENTRY * tally.count;
             let start = tally.whole + tally.damaged;
             list[at] = start as u32;
             list[at + 1] = n as u32;
@@ -101,7 +101,7 @@ fn fits(seg: First, tally: Tally, room: usize, text: usize, out: usize, row: usi
     if out - tally.written < places(seg) {
         return false;
     }
-    if row / 2 < room {
+    if row / Decoder::ENTRY < room {
         return false;
     }
     if Decoder::LIMIT < tally.whole {

@@ -1,4 +1,5 @@
 pub mod Telling
+pub mod Tested
 pub mod Walking
 pub mod Pointing
 pub mod Forms
@@ -6,3 +7,4 @@ pub mod Converting
 pub mod Writing
 pub mod Copying
 pub mod Answering
+pub mod Once

@@ -1,4 +1,5 @@
 pub mod Limits
+pub mod Checks
 pub mod Told
 pub mod Strict
 pub mod Form

@@ -1,7 +1,7 @@
 -- The limits and the fresh state, which belong to the decoder.
 -- Assumes nothing.
 use Prim.Native.Nat.{ℕ}
-use mathlib.Core.List.{[], _∷_}
+use mathlib.Core.List.{List, [], _∷_}
 use Rattle.terms.specs.declared.Decoder.{Decoder}
 
 -- the most bytes, units or code points of a text
@@ -12,6 +12,21 @@ limit = 16777216
 abbrev pub mostRoom : ℕ
 mostRoom = 4096
 
+-- the numbers that a damage entry takes in its list: start and length
+abbrev pub entryWidth : ℕ
+entryWidth = 2
+
+-- the most bytes that are pending, and as many places, in which none is held
+abbrev pub mostPending : ℕ
+mostPending = 3
+
+abbrev pub unheld : List ℕ
+unheld = 0 ∷ 0 ∷ 0 ∷ []
+
+-- the most bytes of a damage
+abbrev pub mostDamaged : ℕ
+mostDamaged = 3
+
 -- nothing is taken, pending or counted
 abbrev pub freshOf : ℕ → Decoder
-freshOf room = record { held = 0 ∷ 0 ∷ 0 ∷ []; pending = 0; taken = 0; whole = 0; damaged = 0; count = 0; room = room }
+freshOf room = record { held = unheld; pending = 0; taken = 0; whole = 0; damaged = 0; count = 0; room = room }

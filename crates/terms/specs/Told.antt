@@ -62,6 +62,10 @@ abbrev pub firstSays : Reader Kind → List ℕ → List ℕ
 firstSays look [] = []
 firstSays look (x ∷ xs) = lookSays (look x xs)
 
--- what stands where an answer grants, and what stands where it refuses
+-- an answer in these numbers grants
+abbrev pub isGranted : List ℕ → Bool
+isGranted says = eqb (getD says 0 0) 0
+
+-- what stands where it does, and what stands where it refuses
 abbrev pub ifGranted : {A : Type 0} → List ℕ → A → A → A
-ifGranted says new old = cond (eqb (getD says 0 0) 0) new old
+ifGranted says new old = cond (isGranted says) new old

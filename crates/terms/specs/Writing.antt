@@ -4,13 +4,13 @@ use mathlib.Core.Path.{_≡_}
 use Prim.Native.Nat.{ℕ}
 use mathlib.Core.Bool.{cond}
 use mathlib.Core.List.{List, [], _∷_, _++_}
-use lib.ListN.{length, getD, drop}
-use lib.Dec.{ltb, eqb}
+use lib.ListN.{length, drop}
+use lib.Dec.{ltb}
 use Rattle.division.specs.Tally.{Entry}
 use Rattle.division.specs.Table.{Kind}
 use Rattle.terms.specs.Form.{Form, converted}
 use Rattle.terms.specs.Strict.{damages, strictly, limited}
-use Rattle.terms.specs.Told.{written}
+use Rattle.terms.specs.Told.{written, ifGranted}
 use Rattle.terms.specs.declared.Written.{Written}
 
 -- refusal 3 with the need, the length of the form, where the output has fewer places; or how many were written
@@ -19,7 +19,7 @@ roomed room form = cond (ltb room (length form)) (3 ∷ length form ∷ []) (0 �
 
 -- a refusal leaves the output as it was; else the form stands at its start, and the places behind keep what they held
 abbrev pub outputOf : List ℕ → List ℕ → List ℕ → List ℕ
-outputOf says form out = cond (eqb (getD says 0 0) 0) (form ++ drop (length form) out) out
+outputOf says form out = ifGranted says (form ++ drop (length form) out) out
 
 -- what a writing call promises: its answer, and the output
 pub record Writes (says form out out′ : List ℕ) (r : Written) : Type 0 where

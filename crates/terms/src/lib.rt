@@ -6,9 +6,10 @@ ghost use Rattle.terms.specs.Limits.{freshOf};
 ghost use Rattle.terms.specs.Told.{sizeOf, refusal, checked};
 
 // The decoder of a byte text that comes in pieces: what it keeps between two pieces. The limits belong to it.
+#[repr(C)]
 pub struct Decoder {
     // the pending bytes, unused ones 0, and how many there are
-    pub held: [u8; 3],
+    pub held: [u8; Decoder::PENDING],
     pub pending: usize,
     // bytes taken, and of these the bytes in whole segments and in damage
     pub taken: usize,
@@ -24,13 +25,19 @@ impl Decoder {
     pub const LIMIT: usize = 16_777_216;
     // The most entries that a damage list has room for.
     pub const ROOM: usize = 4_096;
+    // The numbers that an entry takes in its list: start and length.
+    pub const ENTRY: usize = 2;
+    // The most bytes that are pending.
+    pub const PENDING: usize = 3;
+    // The most bytes of a damage.
+    pub const DAMAGE: usize = 3;
 
     // The state before the first piece.
     pub fn fresh(room: usize) -> Decoder
         ensures { λ r. ⌜ r ≡ freshOf room ⌝ }
     {
         Decoder {
-            held: [0, 0, 0],
+            held: [0; Decoder::PENDING],
             pending: 0,
             taken: 0,
             whole: 0,

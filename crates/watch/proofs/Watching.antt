@@ -2,11 +2,11 @@
 -- Assumes nothing.
 use mathlib.Core.Path.{_≡_, sym, ap, _∙_}
 use Prim.Native.Nat.{ℕ, _+_, _*_, _^_, _≤_, _<_}
-use native.Mathlib.Nat.{add-zero}
-use mathlib.Core.Bool.{Bool, true, false, cond, true≢false}
+use native.Mathlib.Nat.{add-zero, le-trans}
+use mathlib.Core.Bool.{Bool, true, false, cond}
 use mathlib.Core.List.{List, [], _∷_, _++_, append-assoc}
-use lib.ListN.{length, getD, length-append, length-take}
-use lib.Dec.{ltb, eqb}
+use lib.ListN.{length, length-append, length-take}
+use lib.Dec.{ltb}
 use borrow.Author.Tests.{le-ltb, le-leb}
 use native.Mathlib.Omega.{arith}
 use Rattle.division.specs.Reader.{parts}
@@ -14,39 +14,40 @@ use Rattle.division.specs.Table.{isDamage}
 use Rattle.division.proofs.Cases.{split}
 use Rattle.division.proofs.Dividing.{parts-size}
 use Rattle.division.proofs.Tallying.{whole-damaged, count-damaged}
-use Rattle.terms.specs.Limits.{limit, mostRoom}
-use Rattle.terms.specs.Told.{written}
+use Rattle.terms.specs.Limits.{limit, mostRoom, mostPending, unheld, entryWidth}
+use Rattle.terms.specs.Told.{written, isGranted}
 use Rattle.terms.specs.declared.Decoder.{Decoder}
 use Rattle.terms.specs.declared.Refusal.{Refusal}
 use Rattle.terms.specs.declared.Written.the-variants.{Count, Refused}
 use Rattle.terms.proofs.Telling.{no-zero}
+use Rattle.terms.proofs.Tested.{tested-then, granted-passed}
 use Rattle.utf8.specs.Bytes.{bytes}
 use Rattle.soundness.proofs.Testing.{Sound, sound-is}
 use Rattle.repair.specs.State.{left, sound, fed, closed}
 use Rattle.repair.specs.Feeding.{feedSays, Feeds}
 use Rattle.repair.specs.declared.Fed.{Fed}
-use Rattle.repair.proofs.Keeping.{grown, closed-is, fed-small, grown-sound, grown-append, grown-nothing}
+use Rattle.repair.specs.Room.{mostFed}
+use Rattle.repair.proofs.AnyCutting.{feed-grants}
+use Rattle.repair.proofs.Enough.{enough}
+use Rattle.repair.proofs.Keeping.{grown, closed-is, grown-sound, grown-append, grown-nothing}
 use Rattle.watch.specs.Watching.{watchSays, fedByte, counting, refusing, watching, watchedAll}
 use Rattle.watch.specs.declared.Watched.{Watched}
 
 -- ---- what the watch gives where it is granted, and where it is not
 
-abbrev isGranted : List ℕ → Bool
-isGranted says = eqb (getD says 0 0) 0
-
 -- the state behind the byte
 abbrev next : Decoder → ℕ → Decoder
 next d b = grown d (d .taken + 1) (left d ++ b ∷ [])
 
-left-few : (d : Decoder) → Sound d → length (left d) ≤ 3
-left-few d s = omega (arith, length-take (d .pending) (d .held), s .few)
+left-few : (d : Decoder) → Sound d → length (left d) ≤ mostPending
+left-few d s = omega (arith, length-take (d .pending) (d .held), s .tail .few)
 
 -- it is granted where the tests pass and the byte is within the limit, and only where they pass
 grants : (d : Decoder) → sound d ≡ true → d .taken + 1 ≤ limit → isGranted (watchSays d) ≡ true
-grants d s h = rw s (ap (λ (t : Bool). isGranted (cond t (2 ∷ []) (0 ∷ []))) (le-ltb limit (d .taken + 1) h))
+grants d s h = ap isGranted (tested-then (sound d) (d .taken) 1 (0 ∷ []) s h)
 
 granted-sound : (d : Decoder) → isGranted (watchSays d) ≡ true → sound d ≡ true
-granted-sound d g = split (sound d) (λ s. s) (λ s. absurd (true≢false (sym (rw s at g))))
+granted-sound d g = granted-passed (sound d) (d .taken) 1 (0 ∷ []) g .tests
 
 module _ (d : Decoder) (b : ℕ) where
   watching-refused : isGranted (watchSays d) ≡ false → watching d b ≡ refusing d
@@ -103,21 +104,21 @@ step-over d b h =
 bare-sound : (d : Decoder) → d .room ≤ mostRoom → sound (roomOf d 0) ≡ sound d
 bare-sound d roomy = rw (le-leb (d .room) mostRoom roomy)
 
-module _ (d : Decoder) (roomy : d .room ≤ mostRoom) (b : ℕ) (out list : List ℕ) (places : 12 ≤ length out) where
+module _ (d : Decoder) (roomy : d .room ≤ mostRoom) (b : ℕ) (out list : List ℕ) (places : mostFed 1 ≤ length out) where
   abbrev bareSays : List ℕ
   bareSays = feedSays (roomOf d 0) (b ∷ []) out list
 
   -- the output is long enough for what one byte settles
   form-fits : sound d ≡ true → ltb (length out) (length (fed (roomOf d 0) (b ∷ []) list .kept .out)) ≡ false
   form-fits s = le-ltb (length out) (length (fed (roomOf d 0) (b ∷ []) list .kept .out))
-      (omega (arith, fed-small (roomOf d 0) (b ∷ []) list, left-few d (sound-is d s), places))
+      (le-trans (enough (roomOf d 0) (bare-sound d roomy ∙ s) list (b ∷ []) (omega arith)) places)
 
   same-grant : isGranted bareSays ≡ isGranted (watchSays d)
   same-grant = split (sound d)
       (λ s.
       split (ltb limit (d .taken + 1))
       (λ o. rw (bare-sound d roomy, s, o))
-      (λ o. rw (bare-sound d roomy, s, o, le-ltb (length list) (2 * 0) (omega arith), form-fits s)))
+      (λ o. rw (bare-sound d roomy, s, o, le-ltb (length list) (entryWidth * 0) (omega arith), form-fits s)))
       (λ s. rw (bare-sound d roomy, s))
 
   module _ {out′ list′ : List ℕ} {r : Fed} (h : Feeds (roomOf d 0) (b ∷ []) out list out′ list′ r) where
@@ -148,33 +149,26 @@ module _ (d : Decoder) (roomy : d .room ≤ mostRoom) (b : ℕ) (out list : List
 
 -- ---- THE STATE AFTER THE WATCH is that of a feed of this one byte, for any output and list with which it is not refused
 
-feed-grants : (d : Decoder) (b : ℕ) (out list : List ℕ) → isGranted (feedSays d (b ∷ []) out list) ≡ true → isGranted (watchSays d) ≡ true
-feed-grants d b out list g = split (sound d)
-    (λ s.
-    split (ltb limit (d .taken + 1))
-    (λ o. absurd (true≢false (sym (rw (s, o) at g))))
-    (λ o. rw (s, o)))
-    (λ s. absurd (true≢false (sym (rw s at g))))
-
 pub watch-feed : (d : Decoder) (b : ℕ) (out list out′ list′ ns : List ℕ) (r : Fed) → Feeds d (b ∷ []) out list out′ list′ r
     → written (r .answer) ≡ 0 ∷ ns → watching d b .state ≡ r .state
 watch-feed d b out list out′ list′ ns r h e =
     let g : isGranted (feedSays d (b ∷ []) out list) ≡ true = ap isGranted (sym (h .answer) ∙ e) in
+    let a = feed-grants d (b ∷ []) out list g .admits in
     let fed-state : r .state ≡ next d b
     = h .state
     ∙ ap (λ (t : Bool). cond t (closed d (d .taken + 1) (fed d (b ∷ []) list)) d) g
     ∙ closed-is d (d .taken + 1) (b ∷ []) list in
-    ap (λ (w : Watched). w .state) (watching-granted d b (feed-grants d b out list g)) ∙ sym fed-state
+    ap (λ (w : Watched). w .state) (watching-granted d b (grants d (a .tests) (a .within))) ∙ sym fed-state
 
 -- ---- BYTES ONE BY ONE are one piece
 
-next-three : (d : Decoder) (b : ℕ) → length (next d b .held) ≡ 3
+next-three : (d : Decoder) (b : ℕ) → length (next d b .held) ≡ mostPending
 next-three d b =
     let rest = parts bytes (left d ++ b ∷ []) .left in
-    let row : List ℕ = 0 ∷ 0 ∷ 0 ∷ [] in
-    omega (arith, length-take 3 (rest ++ row), length-append rest row)
+    let row : List ℕ = unheld in
+    omega (arith, length-take mostPending (rest ++ row), length-append rest row)
 
-watched-grown : (d : Decoder) (bs : List ℕ) → length (d .held) ≡ 3 → sound d ≡ true → d .taken + length bs ≤ limit
+watched-grown : (d : Decoder) (bs : List ℕ) → length (d .held) ≡ mostPending → sound d ≡ true → d .taken + length bs ≤ limit
     → watchedAll d bs ≡ grown d (d .taken + length bs) (left d ++ bs)
 watched-grown d [] three s h = rw add-zero (sym (grown-nothing d three (sound-is d s)))
 watched-grown d (b ∷ bs) three s h =
@@ -186,7 +180,7 @@ watched-grown d (b ∷ bs) three s h =
     ∙ grown-append d (d .taken + 1) (d .taken + 1 + length bs) (left d ++ b ∷ []) bs
     ∙ rw (append-assoc, t)
 
-module _ (d : Decoder) (bs list : List ℕ) (three : length (d .held) ≡ 3) (s : sound d ≡ true) where
+module _ (d : Decoder) (bs list : List ℕ) (three : length (d .held) ≡ mostPending) (s : sound d ≡ true) where
   -- the state is that of one feed of all of them, whatever the list
   pub watched-all : d .taken + length bs ≤ limit → watchedAll d bs ≡ closed d (d .taken + length bs) (fed d bs list)
   watched-all h = watched-grown d bs three s h ∙ sym (closed-is d (d .taken + length bs) bs list)

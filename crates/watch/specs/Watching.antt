@@ -1,10 +1,8 @@
 -- The watch: the state after one byte, and the reply.
 -- Assumes nothing.
 use Prim.Native.Nat.{ℕ, _+_}
-use mathlib.Core.Bool.{cond}
 use mathlib.Core.List.{List, [], _∷_, foldl}
-use lib.Dec.{ltb}
-use Rattle.terms.specs.Limits.{limit}
+use Rattle.terms.specs.Checks.{tested}
 use Rattle.terms.specs.Told.{ifGranted}
 use Rattle.terms.specs.declared.Decoder.{Decoder}
 use Rattle.repair.specs.State.{sound, fed, closed}
@@ -12,7 +10,7 @@ use Rattle.watch.specs.declared.Watched.{Watched}
 
 -- refusal 8, then 2, and no other, since the watch needs no output and no list
 abbrev pub watchSays : Decoder → List ℕ
-watchSays d = cond (sound d) (cond (ltb limit (d .taken + 1)) (2 ∷ []) (0 ∷ [])) (8 ∷ [])
+watchSays d = tested (sound d) (d .taken) 1 (0 ∷ [])
 
 -- the state of a feed of this one byte
 abbrev pub fedByte : Decoder → ℕ → Decoder

@@ -20,8 +20,8 @@ fn refuse(state: Decoder) -> Watched
     }
 }
 
-// The step by value. The byte is fed with no room for entries, and twelve places are enough for what four bytes settle; then
-// the state gets its room back.
+// The step by value. The byte is fed with no room for entries, into the most places that a feed of one byte can need; then the
+// state gets its room back.
 pub fn step(state: Decoder, b: u8) -> Watched
     ensures { λ r. ⌜ r ≡ watching state b ⌝ }
 {
@@ -31,7 +31,7 @@ pub fn step(state: Decoder, b: u8) -> Watched
     let mut bare = state;
     bare.room = 0;
     let piece = [b];
-    let mut out = [0u8; 12];
+    let mut out = [0u8; 6];
     let mut list = [0u32; 1];
     let fed = repair::feed(bare, &piece, &mut out, &mut list);
     let answer = fed.answer;

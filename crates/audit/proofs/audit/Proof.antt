@@ -9,8 +9,7 @@ use borrow.Author.Tests.{not-true, not-false}
 use borrow.Author.Needs.{needs}
 use Rattle.division.specs.Place.{mark}
 use Rattle.division.specs.Index.{marks}
-use Rattle.utf8.specs.Bytes.{bytes}
-use Rattle.place.specs.Measures.{ruler}
+use Rattle.place.specs.Measures.{ruler, reader}
 use Rattle.checkpoints.specs.Checkpoints.{spacing}
 use Rattle.audit.proofs.Auditing.{audit-over, audit-short, Audited, audited-start, audited-in, audited-end}
 use Rattle.audit.proofs.Auditing.{audited-found, audited-refused, audited-no, audited-next}
@@ -26,27 +25,29 @@ abbrev μ-loop : tie.MeasureT-loop
 returns : tie.Need-returns Inv-loop μ-loop
 returns c = let a = c .before .before .before .args in audit-over (a .text .now) (a .row .now) (c .if1 .taken)
 
-add-n : tie.Need-add-n Inv-loop μ-loop
-add-n c = search needs
-
-mul-if2 : tie.Need-mul-if2 Inv-loop μ-loop
-mul-if2 c = search needs
+needed-requires : tie.Need-needed-requires Inv-loop μ-loop
+needed-requires c κs = search needs
 
 returns-2 : tie.Need-returns-2 Inv-loop μ-loop
 returns-2 c =
-    let e = c .before in
+    let n = c .before in
+    let e = n .before in
     let a = e .before .before .before .args in
-    audit-short (a .text .now) (a .row .now) (e .if1 .left) (omega (arith, c .if2 .taken))
+    audit-short (a .text .now) (a .row .now) (e .if1 .left) (rw (← n .needed .ensures) (c .if2 .taken))
+
+marks-requires : tie.Need-marks-requires Inv-loop μ-loop
+marks-requires c κs = search needs
 
 start-requires : tie.Need-start-requires Inv-loop μ-loop
 start-requires c κs = search needs
 
 loop-holds : tie.Need-loop-holds Inv-loop μ-loop
 loop-holds c =
-    let r = c .before in
-    let e = r .before in
+    let r = c .before .before in
+    let n = r .before in
+    let e = n .before in
     let a = e .before .before .before .args in
-    rw (c .start .ensures) (audited-start (a .text .now) (a .row .now) (e .if1 .left) (omega (arith, r .if2 .left)))
+    rw (c .start .ensures) (audited-start (a .text .now) (a .row .now) (e .if1 .left) (rw (← n .needed .ensures) (r .if2 .left)))
 
 sub-last : tie.Need-sub-last Inv-loop μ-loop
 sub-last c = audited-in (c .before .loop .inv)
@@ -59,11 +60,11 @@ part-last-end c = search needs
 
 -- there is a checkpoint left
 more : (c : tie.In-loop Inv-loop μ-loop)
-    → let l = c .before in l .loop .k < marks spacing (length (l .before .before .before .before .before .before .args .text .now))
-more c = omega (arith, c .loop-test .taken)
+    → let l = c .before in l .loop .k < marks spacing (length (l .before .before .before .before .before .before .before .before .args .text .now))
+more c = rw (← c .before .before .before .marks .ensures) (c .loop-test .taken)
 
-mul-t17 : tie.Need-mul-t17 Inv-loop μ-loop
-mul-t17 c = omega (arith, more (c .before), c .before .before .loop .inv .within)
+mul-t18 : tie.Need-mul-t18 Inv-loop μ-loop
+mul-t18 c = omega (arith, more (c .before), c .before .before .loop .inv .within)
 
 last-requires : tie.Need-last-requires Inv-loop μ-loop
 last-requires c κs = search needs
@@ -74,7 +75,7 @@ enum-known-q c = search needs
 -- the last place at or before the checkpoint's byte
 found : (c : tie.After-q Inv-loop μ-loop)
     → let l = c .before .before .before .before .before in
-    c .q .given .0 .0 ≡ mark bytes ruler (spacing * l .loop .k) (l .before .before .before .before .before .before .args .text .now)
+    c .q .given .0 .0 ≡ mark reader ruler (spacing * l .loop .k) (l .before .before .before .before .before .before .before .before .args .text .now)
 found c =
     let w = c .before .before in
     let l = w .before .before .before in
@@ -114,7 +115,7 @@ returns-4 c =
     absurd (audited-refused (l .loop .inv) (w .last .result) (w .last .ensures) (c .enum-told .given .0 .0) (c .enum-told .given .1))
 
 returns-5 : tie.Need-returns-5 Inv-loop μ-loop
-returns-5 c = let l = c .before in audited-end (l .loop .inv) (omega (arith, c .loop-test .left))
+returns-5 c = let l = c .before in audited-end (l .loop .inv) (rw (← l .before .before .marks .ensures) (c .loop-test .left))
 
 pub audit-spec : {M : Type 1} → statement M
 audit-spec =
@@ -123,15 +124,15 @@ audit-spec =
     Inv-loop
     μ-loop
     returns
-    add-n
-    mul-if2
+    needed-requires
     returns-2
+    marks-requires
     start-requires
     loop-holds
     sub-last
     part-last-start
     part-last-end
-    mul-t17
+    mul-t18
     last-requires
     enum-known-q
     agrees-requires

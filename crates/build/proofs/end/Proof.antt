@@ -3,6 +3,7 @@
 use mathlib.Core.Path.{_≡_, refl, sym, ap, _∙_}
 use lib.ListN.{length, length-map}
 use lib.Seq.{length-sets}
+use Rattle.terms.specs.Limits.{mostPending}
 use Rattle.builder.proofs.Testing.{Sound, sound-is}
 use Rattle.build.proofs.Joining.{end-none, end-ahead, end-some}
 use borrow.Author.Needs.{needs}
@@ -10,7 +11,7 @@ use Rattle.build.proofs.end.Statement.{statement}
 use Rattle.build.proofs.end.Tie as tie
 
 -- an array has its length
-three : (c : tie.Start) → length (c .args .state .held) ≡ 3
+three : (c : tie.Start) → length (c .args .state .held) ≡ mostPending
 three c = sym (length-map (c .args .state .held) (λ v. v)) ∙ c .good .0 .1 .1 .0 .1 .0 .1
 
 passes : (c : tie.Start) → Sound (c .args .state)

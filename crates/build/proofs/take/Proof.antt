@@ -4,6 +4,7 @@ use Prim.Native.Nat.{_≤_}
 use mathlib.Core.Path.{_≡_, sym, ap, _∙_}
 use lib.ListN.{length, take, length-map}
 use lib.Seq.{length-take-le, length-sets}
+use Rattle.terms.specs.Limits.{mostPending}
 use Rattle.pending.specs.Tail.{four}
 use Rattle.builder.specs.State.{left}
 use Rattle.build.proofs.Joining.{granted-row}
@@ -19,7 +20,7 @@ seam-of-requires : tie.Need-seam-of-requires
 seam-of-requires c κs = search needs
 
 -- an array has its length
-three : (c : tie.Start) → length (c .args .state .held) ≡ 3
+three : (c : tie.Start) → length (c .args .state .held) ≡ mostPending
 three c = sym (length-map (c .args .state .held) (λ v. v)) ∙ c .good .0 .1 .1 .0 .1 .0 .1
 
 -- the seam, as it is handed on

@@ -45,25 +45,24 @@ within c =
 add-needed : tie.Need-add-needed
 add-needed c = search needs
 
-add-needed-2 : tie.Need-add-needed-2
-add-needed-2 c = search needs
-
-mul-needed : tie.Need-mul-needed
-mul-needed c = search needs
+needed-requires : tie.Need-needed-requires
+needed-requires c κs = search needs
 
 returns-3 : tie.Need-returns-3
 returns-3 c =
-    let g = c .before .before in
+    let n = c .before in
+    let g = n .before .before in
     let e = g .before .before in
     let a = e .before .before .args in
-    says-short (a .state) (a .more) (a .room) (passed e) (within g) _ (omega arith) (c .if3 .taken)
+    says-short (a .state) (a .more) (a .room) (passed e) (within g) (n .needed .result) (n .needed .ensures) (c .if3 .taken)
 
 returns-4 : tie.Need-returns-4
 returns-4 c =
-    let g = c .before .before in
+    let n = c .before in
+    let g = n .before .before in
     let e = g .before .before in
     let a = e .before .before .args in
-    says-done (a .state) (a .more) (a .room) (passed e) (within g) (omega (arith, c .if3 .left))
+    says-done (a .state) (a .more) (a .room) (passed e) (within g) (rw (← n .needed .ensures) (c .if3 .left))
 
 pub check-spec : {M : Type 1} → statement M
 check-spec =
@@ -74,7 +73,6 @@ check-spec =
     sub-if2
     returns-2
     add-needed
-    add-needed-2
-    mul-needed
+    needed-requires
     returns-3
     returns-4)

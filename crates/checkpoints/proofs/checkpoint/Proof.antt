@@ -1,4 +1,4 @@
--- `checkpoints::checkpoint` meets its contract: it reads the four numbers from 4k on.
+-- `checkpoints::checkpoint` meets its contract: it reads its numbers, from the first on.
 -- Assumes nothing.
 use mathlib.Core.Path.{_∙_}
 use borrow.Author.Needs.{needs}

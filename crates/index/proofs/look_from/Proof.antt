@@ -7,8 +7,7 @@ use lib.ListN.{length}
 use borrow.Author.Tests.{not-true, not-false}
 use borrow.Author.Needs.{needs}
 use Rattle.division.specs.Index.{usable}
-use Rattle.utf8.specs.Bytes.{bytes}
-use Rattle.place.specs.Measures.{ruler}
+use Rattle.place.specs.Measures.{ruler, reader, longest}
 use Rattle.place.specs.Walk.{number, measure, fair}
 use Rattle.checkpoints.specs.Checkpoints.{spacing}
 use Rattle.index.proofs.Resuming.{from-unusable, usable-in, from-usable, from-read}
@@ -34,7 +33,7 @@ returns c =
 passed : (c : tie.Else1)
     → let k = c .before .before in
     let a = k .before .before .before .args in
-    usable bytes ruler 4 spacing fair (measure (a .to)) (number (a .to)) (a .j) (k .checkpoint .result) ≡ true
+    usable reader ruler longest spacing fair (measure (a .to)) (number (a .to)) (a .j) (k .checkpoint .result) ≡ true
 passed c = sym (c .before .usable .ensures) ∙ not-false _ (c .if1 .left)
 
 inside : (c : tie.Else1) → let k = c .before .before in k .checkpoint .result .bytes ≤ length (k .before .before .before .args .text .now)

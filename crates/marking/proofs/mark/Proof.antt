@@ -5,13 +5,14 @@ use lib.ListN.{length, length-set}
 use borrow.Author.Tests.{le-ltb, lt-ltb}
 use native.Mathlib.Omega.{arith}
 use borrow.Author.Needs.{needs}
+use Rattle.checkpoints.specs.Checkpoints.{width}
 use Rattle.marking.specs.Marks.{short}
 use Rattle.marking.proofs.Writing.{four-written}
 use Rattle.marking.proofs.mark.Statement.{statement}
 use Rattle.marking.proofs.mark.Tie as tie
 
 returns : tie.Need-returns
-returns c = let a = c .before .before .args in rw (le-ltb (a .k) (length (a .row .now) / 4) (c .if1 .taken))
+returns c = let a = c .before .before .args in rw (le-ltb (a .k) (length (a .row .now) / width) (c .if1 .taken))
 
 mul-at : tie.Need-mul-at
 mul-at c = search needs
@@ -76,7 +77,7 @@ returns-2 c =
       points .entry3 .ensures,
       units .entry2 .ensures,
       bytes .entry .ensures,
-      lt-ltb (a .k) (length (a .row .now) / 4) (e .if1 .left),
+      lt-ltb (a .k) (length (a .row .now) / width) (e .if1 .left),
     )
     (four-written (a .row .now) (a .k) (short (a .p)))
 

@@ -8,6 +8,7 @@ use lib.Seq.{length-take-le}
 use native.Mathlib.Omega.{arith}
 use borrow.Author.Needs.{needs}
 use Rattle.copying.proofs.Copied.{copied-whole}
+use Rattle.terms.specs.Limits.{mostPending}
 use Rattle.utf8.specs.Pending.{padded}
 use Rattle.pending.proofs.Holding.{take-min, padded-is, padded-take}
 use Rattle.pending.proofs.hold.Statement.{statement}
@@ -37,8 +38,8 @@ returns c =
     let l = c .before .before .before .before in
     let left = l .before .before .args .left .now in
     let run : List ℕ = take (l .least .result) left in
-    let e : run ≡ take 3 left = rw (l .least .ensures) (take-min 3 left) in
-    let h : length run ≤ 3 = omega (arith, part l, l .least .ensures) in
+    let e : run ≡ take mostPending left = rw (l .least .ensures) (take-min mostPending left) in
+    let h : length run ≤ mostPending = omega (arith, part l, l .least .ensures) in
     copied-whole run (0 ∷ 0 ∷ 0 ∷ []) _ h (c .before .copy .ensures) ∙ padded-is run h ∙ ap padded e ∙ padded-take left
 
 pub hold-spec : {M : Type 1} → statement M

@@ -7,6 +7,7 @@ use lib.Seq.{length-take-le, take-all}
 use native.Mathlib.Omega.{arith}
 use borrow.Author.Needs.{needs}
 use Rattle.division.specs.Tally.{total, size}
+use Rattle.terms.specs.Limits.{mostPending}
 use Rattle.utf8.specs.Pending.{zeros}
 use Rattle.pending.specs.Tail.{settled}
 use Rattle.pending.proofs.Settling.{told-size, pending-none, pending-some}
@@ -15,7 +16,7 @@ use Rattle.pending.proofs.is_tail.Statement.{statement}
 use Rattle.pending.proofs.is_tail.Tie as tie
 
 -- an array has its length
-three : (c : tie.Start) → length (c .args .t1) ≡ 3
+three : (c : tie.Start) → length (c .args .t1) ≡ mostPending
 three c = c .good .0 .1 .0 .1
 
 returns : tie.Need-returns
@@ -67,8 +68,8 @@ returns-3 c =
     let e = s .before .before .before in
     let z = e .before in
     let a = z .args in
-    let p : take (3 - a .n) (drop (a .n) (a .t1)) ≡ drop (a .n) (a .t1)
-    = take-all (3 - a .n) (drop (a .n) (a .t1)) (omega (arith, three z, length-drop (a .n) (a .t1))) in
+    let p : take (mostPending - a .n) (drop (a .n) (a .t1)) ≡ drop (a .n) (a .t1)
+    = take-all (mostPending - a .n) (drop (a .n) (a .t1)) (omega (arith, three z, length-drop (a .n) (a .t1))) in
     c .is-zero .ensures ∙ ap zeros p ∙ tail-rest (a .t1) (a .n) (e .if1 .left) (pending-none (take (a .n) (a .t1)) (sym (size-is s) ∙ g .if2 .left))
 
 pub is-tail-spec : {M : Type 1} → statement M

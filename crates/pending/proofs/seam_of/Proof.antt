@@ -7,13 +7,14 @@ use lib.ListN.{length, take, length-take}
 use lib.Seq.{length-take-le}
 use native.Mathlib.Omega.{arith}
 use borrow.Author.Needs.{needs}
+use Rattle.terms.specs.Limits.{mostPending}
 use Rattle.pending.specs.Tail.{four}
 use Rattle.pending.proofs.Holding.{take-min, seam-padded}
 use Rattle.pending.proofs.seam_of.Statement.{statement}
 use Rattle.pending.proofs.seam_of.Tie as tie
 
 -- an array has its length
-three : (c : tie.Start) → length (c .args .t1) ≡ 3
+three : (c : tie.Start) → length (c .args .t1) ≡ mostPending
 three c = c .good .0 .1 .0 .1
 
 least-requires : tie.Need-least-requires

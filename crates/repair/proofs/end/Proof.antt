@@ -2,6 +2,7 @@
 -- Assumes nothing.
 use mathlib.Core.Path.{_≡_, sym, _∙_}
 use lib.ListN.{length, length-map}
+use Rattle.terms.specs.Limits.{mostPending}
 use Rattle.tally.specs.Acting.{places, work}
 use Rattle.repair.specs.Steps.{lastOf}
 use Rattle.repair.proofs.Finishing.{finish-short, finish-done}
@@ -10,7 +11,7 @@ use Rattle.repair.proofs.end.Statement.{statement}
 use Rattle.repair.proofs.end.Tie as tie
 
 -- an array has its length
-three : (c : tie.Start) → length (c .args .state .held) ≡ 3
+three : (c : tie.Start) → length (c .args .state .held) ≡ mostPending
 three c = sym (length-map (c .args .state .held) (λ v. v)) ∙ c .good .0 .1 .1 .0 .1 .0 .1
 
 last-requires : tie.Need-last-requires

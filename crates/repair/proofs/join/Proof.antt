@@ -7,6 +7,7 @@ use lib.ListN.{length, take, drop, length-map}
 use native.Mathlib.Omega.{arith}
 use Rattle.division.specs.Stream.{State}
 use Rattle.division.specs.Tally.{total, size, Log}
+use Rattle.terms.specs.Limits.{mostPending}
 use Rattle.terms.proofs.Walking.{part-is}
 use Rattle.pending.specs.Tail.{settled}
 use Rattle.pending.proofs.Settling.{told-size}
@@ -18,7 +19,7 @@ use Rattle.repair.proofs.join.Statement.{statement}
 use Rattle.repair.proofs.join.Tie as tie
 
 -- an array has its length
-three : (c : tie.Start) → length (c .args .state .held) ≡ 3
+three : (c : tie.Start) → length (c .args .state .held) ≡ mostPending
 three c = sym (length-map (c .args .state .held) (λ v. v)) ∙ c .good .1 .0 .1 .1 .0 .1 .0 .1
 
 add-taken : tie.Need-add-taken

@@ -1,14 +1,15 @@
--- Every index is below twice the number of entries, which is within the list.
+-- Every index is below the numbers of the entries, which are within the list.
 -- Assumes nothing.
 use Prim.Native.Nat.{_-_, _*_, _≤_}
 use mathlib.Core.Path.{_≡_}
 use lib.ListN.{length}
+use Rattle.terms.specs.Limits.{entryWidth}
 use borrow.Author.Needs.{needs}
 use Rattle.report.proofs.entries.Statement.{statement}
 use Rattle.report.proofs.entries.Tie as tie
 
 abbrev Inv-loop : tie.InvT-loop
-Inv-loop list count n i₀ t5 t6 i = (i ≤ n) × (2 * n ≤ length list) × (6 ≡ length t5) × (1 ≡ length t6)
+Inv-loop list count n i₀ t5 t6 i = (i ≤ n) × (entryWidth * n ≤ length list) × (6 ≡ length t5) × (1 ≡ length t6)
 
 abbrev μ-loop : tie.MeasureT-loop
 μ-loop list count n i₀ t5 t6 i = n - i

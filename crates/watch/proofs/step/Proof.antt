@@ -37,7 +37,7 @@ cast-t18 c =
     let l = f .before .before .before .before in
     let a = l .before .before .args in
     let told = m .enum-told .given in
-    record { fits = step-fits (a .state) (l .if1 .left) (a .b) _ _ (le-refl 12) (f .feed .ensures) (told .0 .0) (told .1) }
+    record { fits = step-fits (a .state) (l .if1 .left) (a .b) _ _ (le-refl 6) (f .feed .ensures) (told .0 .0) (told .1) }
 
 enum-told-2 : tie.Need-enum-told-2
 enum-told-2 c = search needs
@@ -52,7 +52,7 @@ returns-2 c =
     let l = f .before .before .before .before in
     let a = l .before .before .args in
     let told = m .enum-told .given in
-    step-granted (a .state) (l .if1 .left) (a .b) _ _ (le-refl 12) (f .feed .ensures) (told .0 .0) (told .1)
+    step-granted (a .state) (l .if1 .left) (a .b) _ _ (le-refl 6) (f .feed .ensures) (told .0 .0) (told .1)
 
 returns-3 : tie.Need-returns-3
 returns-3 c =
@@ -61,7 +61,7 @@ returns-3 c =
     let l = f .before .before .before .before in
     let a = l .before .before .args in
     let told = m .enum-told2 .given in
-    c .refuse2 .ensures ∙ step-refused (a .state) (l .if1 .left) (a .b) _ _ (le-refl 12) (f .feed .ensures) (told .0 .0) (told .1)
+    c .refuse2 .ensures ∙ step-refused (a .state) (l .if1 .left) (a .b) _ _ (le-refl 6) (f .feed .ensures) (told .0 .0) (told .1)
 
 pub step-spec : {M : Type 1} → statement M
 step-spec =
