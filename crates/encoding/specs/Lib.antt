@@ -1,3 +1,4 @@
 pub mod Target
 pub mod Puts
 pub mod Passes
+pub mod Room

@@ -1,4 +1,4 @@
--- The form into which a text is converted.
+-- The form that a text has, or into which it is converted.
 -- Assumes nothing.
 use Rattle.terms.specs.Form.{Form}
 use Rattle.utf8.specs.Scalar.{utf8}

@@ -1,4 +1,6 @@
-// A code point in each form: how many places it takes, and its elements at the start of an output.
+// A code point in each form: how many places it takes, and its elements at the start of an output; and the most places that a
+// text can take.
+use terms::Decoder;
 ghost use mathlib.Core.Path.{_≡_};
 ghost use lib.ListN.{length};
 ghost use Rattle.utf8.specs.Scalar.{sequence, utf8};
@@ -6,8 +8,9 @@ ghost use Rattle.utf16.specs.Scalar.{pair, utf16};
 ghost use Rattle.points.specs.Points.{codes};
 ghost use Rattle.encoding.specs.Target.{formOf};
 ghost use Rattle.encoding.specs.Puts.{fitting, Puts};
+ghost use Rattle.encoding.specs.Room.{placesEach, mostOf};
 
-// The form into which a text is converted.
+// The form that a text has, or into which it is converted.
 pub enum Target {
     Bytes,
     Units,
@@ -47,6 +50,36 @@ pub fn places(target: Target, c: u32) -> usize
         Target::Units => units_of(c),
         Target::Codes => 1,
     }
+}
+
+// The most places that one element takes.
+fn places_each(from: Target, to: Target) -> usize
+    ensures { λ r. ⌜ r ≡ placesEach from to ⌝ }
+{
+    match to {
+        Target::Bytes => match from {
+            Target::Bytes => 3,
+            Target::Units => 3,
+            Target::Codes => 4,
+        },
+        Target::Units => match from {
+            Target::Bytes => 1,
+            Target::Units => 1,
+            Target::Codes => 2,
+        },
+        Target::Codes => 1,
+    }
+}
+
+// The most places that a text of so many elements can need, converted or repaired.
+pub fn most(from: Target, to: Target, n: usize) -> usize
+    ensures { λ r. ⌜ r ≡ mostOf from to n ⌝ }
+{
+    let each = places_each(from, to);
+    if Decoder::LIMIT < n {
+        return each * Decoder::LIMIT;
+    }
+    each * n
 }
 
 pub fn put_bytes(out: &mut [u8], c: u32) -> usize

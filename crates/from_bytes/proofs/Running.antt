@@ -1,25 +1,17 @@
--- Runs of whole segments in the walk that writes units: what is spelled at once, and that it is no more than there are bytes.
+-- Runs of whole segments in the walk that writes units: what is spelled at once.
 -- Assumes nothing.
 use mathlib.Core.Path.{_≡_, sym, ap}
 use Prim.Native.Nat.{ℕ, _+_, _-_, _≤_}
 use mathlib.Core.Bool.{cond}
-use mathlib.Core.List.{List, [], _∷_, _++_}
-use lib.ListN.{length, take, drop, length-append}
+use mathlib.Core.List.{List, _++_}
+use lib.ListN.{length, take, drop}
 use lib.Dec.{ltb}
-use native.Mathlib.Omega.{arith}
-use Rattle.division.specs.Reader.{Segment, cut}
-use Rattle.division.specs.Table.{Kind, isDamage}
-use Rattle.division.specs.Tally.{written, total, size}
-use Rattle.division.proofs.Cases.{split}
-use Rattle.division.proofs.Dividing.{cut-size}
-use Rattle.terms.specs.Form.{pointOf, converted}
+use Rattle.terms.specs.Form.{converted}
 use Rattle.terms.proofs.Walking.{part-is}
 use Rattle.terms.proofs.Writing.{Passed, left, Wrote, lent, back, filled-room, filled-on}
-use Rattle.utf8.specs.Bytes.{bytes}
 use Rattle.strict_utf8.specs.Run.{wholeRun}
-use Rattle.utf8.specs.Scalar.{number, utf8}
-use Rattle.utf16.specs.Scalar.{pair, utf16}
-use Rattle.utf16.proofs.Scalars.{is-one}
+use Rattle.utf8.specs.Scalar.{utf8}
+use Rattle.utf16.specs.Scalar.{utf16}
 use Rattle.spelling.specs.Spell.{spelled}
 use Rattle.spelling.proofs.Wholes.{spelled-whole}
 use Rattle.encoding.specs.Puts.{Puts}
@@ -58,23 +50,3 @@ module _ (text : List ℕ) (at calm n : ℕ) (h : at ≤ length text)
           let k : put ≡ length (spelled (take n (drop at text))) = rw taken at (q .count) in
           let o : ys ≡ spelled (take n (drop at text)) ++ drop (length (spelled (take n (drop at text)))) (lent out done) = rw taken at (q .output) in
           rw k (filled-on (left utf8 utf16 text) (length text) out₀ out at done w room n (spelled (take n (drop at text))) passed-units ys o)
-
--- ---- how much it is at most: no more units than bytes
-
-at-most-two : (c : ℕ) → length (pair c) ≤ 2
-at-most-two c = split (ltb c 0x10000) (λ e. rw e (omega arith)) (λ e. rw e (omega arith))
-
-units-of : (x : ℕ) (xs : List ℕ) → length (pair (number (x ∷ xs))) ≤ length (x ∷ xs)
-units-of a [] = rw (is-one (number (a ∷ [])) (omega arith)) (omega arith)
-units-of a (b ∷ []) = rw (is-one (number (a ∷ b ∷ [])) (omega arith)) (omega arith)
-units-of a (b ∷ c ∷ []) = rw (is-one (number (a ∷ b ∷ c ∷ [])) (omega arith)) (omega arith)
-units-of a (b ∷ c ∷ d ∷ xs) = omega (arith, at-most-two (number (a ∷ b ∷ c ∷ d ∷ [])))
-
-pub units-few : (text : List ℕ) → length (converted utf8 utf16 text) ≤ length text
-units-few text = omega (arith, go (cut bytes text), cut-size bytes text)
-  where
-    go : (ss : List (Segment Kind)) → length (written (λ s. pair (pointOf utf8 s)) ss) ≤ total size ss
-    go [] = omega arith
-    go (s ∷ ss) = rw length-append (split (isDamage (s .tag))
-        (λ d. rw d (omega (arith, go ss)))
-        (λ d. rw d (omega (arith, go ss, units-of (s .head) (s .tail)))))

@@ -93,7 +93,7 @@ pub fn repair_to_units(text: &[u8], out: &mut [u16]) -> Written
     if Decoder::LIMIT < text.len() {
         return Written::Refused(Refusal::OverLimit);
     }
-    if text.len() <= out.len() {
+    if encoding::most(Target::Bytes, Target::Units, text.len()) <= out.len() {
         return Written::Count(write_units(text, out));
     }
     let units = need(text, Target::Units);

@@ -211,8 +211,7 @@ pub fn repair_to_bytes(text: &[u16], out: &mut [u8]) -> Written
     if Decoder::LIMIT < text.len() {
         return Written::Refused(Refusal::OverLimit);
     }
-    // three places for each unit are always enough
-    if text.len() * 3 <= out.len() {
+    if encoding::most(Target::Units, Target::Bytes, text.len()) <= out.len() {
         return Written::Count(write_bytes(text, out));
     }
     let bytes = need_bytes(text);

@@ -1,19 +1,17 @@
 -- Runs of whole segments in the walks over a byte text: what is passed over at once, and what it writes.
 -- Assumes nothing.
 use mathlib.Core.Path.{_≡_, sym, _∙_}
-use Prim.Native.Nat.{ℕ, _+_, _-_, _*_, _≤_}
+use Prim.Native.Nat.{ℕ, _+_, _-_, _≤_}
 use mathlib.Core.Bool.{cond}
-use mathlib.Core.List.{List, [], _∷_, _++_}
-use lib.ListN.{length, take, drop, length-append, length-drop}
+use mathlib.Core.List.{List, _++_}
+use lib.ListN.{length, take, drop, length-drop}
 use lib.Seq.{drop-drop, take-length, length-take-le}
 use lib.Dec.{ltb}
 use native.Mathlib.Omega.{arith}
-use Rattle.division.specs.Reader.{Segment, cut}
-use Rattle.division.specs.Table.{Kind, isDamage}
-use Rattle.division.specs.Tally.{written, total, size}
+use Rattle.division.specs.Reader.{cut}
 use Rattle.division.proofs.Cases.{split}
-use Rattle.division.proofs.Dividing.{written-append, cut-size}
-use Rattle.terms.specs.Form.{Form, mend, repaired, pointOf, converted}
+use Rattle.division.proofs.Dividing.{written-append}
+use Rattle.terms.specs.Form.{Form, repaired, pointOf, converted}
 use Rattle.terms.proofs.Converting.{whole-none, repaired-same, repaired-converted}
 use Rattle.terms.proofs.Walking.{part-is}
 use Rattle.terms.proofs.Writing.{Passed, left, Counted, summed-on, Wrote, lent, back, filled-room, filled-on}
@@ -80,14 +78,3 @@ module _ (text : List ℕ) (at calm n : ℕ) (h : at ≤ length text)
           let p : ys ≡ take n (drop at text) ++ drop (length (take n (drop at text))) (lent out done) =
           copied-whole (take n (drop at text)) (lent out done) ys (rw long bytes-room) (rw k at e) in
           rw long at (filled-on (left utf8 utf8 text) (length text) out₀ out at done w room n (take n (drop at text)) passed-bytes ys p)
-
--- ---- how much it is at most: no more than three bytes for one
-
-pub bytes-few : (text : List ℕ) → length (converted utf8 utf8 text) ≤ 3 * length text
-bytes-few text = rw (← repaired-converted utf8-faithful text) (omega (arith, go (cut bytes text), cut-size bytes text))
-  where
-    go : (ss : List (Segment Kind)) → length (written (mend utf8) ss) ≤ 3 * total size ss
-    go [] = omega arith
-    go (s ∷ ss) = rw length-append (split (isDamage (s .tag))
-        (λ d. rw d (omega (arith, go ss)))
-        (λ d. rw d (omega (arith, go ss))))

@@ -1,4 +1,5 @@
 // A whole byte text repaired into bytes, into a lent output.
+use encoding::Target;
 use terms::Decoder;
 use terms::Refusal;
 use terms::Written;
@@ -169,7 +170,7 @@ pub fn repair(text: &[u8], out: &mut [u8]) -> Written
     if Decoder::LIMIT < text.len() {
         return Written::Refused(Refusal::OverLimit);
     }
-    if text.len() <= out.len() / 3 {
+    if encoding::most(Target::Bytes, Target::Bytes, text.len()) <= out.len() {
         return Written::Count(write_bytes(text, out));
     }
     if strict_utf8::whole_run(text) == text.len() {

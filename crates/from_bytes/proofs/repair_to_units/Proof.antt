@@ -1,11 +1,14 @@
--- Refusal 2, then 3, then the form is written; where the output has a place for each byte there is room without counting.
+-- Refusal 2, then 3, then the form is written; where there is room for any text of this length, refusal 3 is not due.
 -- Assumes nothing.
+use Prim.Native.Nat.{_≤_}
+use lib.ListN.{length}
 use native.Mathlib.Omega.{arith}
 use Rattle.terms.specs.Form.{converted}
 use Rattle.terms.proofs.Answering.{repair-over, repair-short, repair-done}
 use Rattle.utf8.specs.Scalar.{utf8}
 use Rattle.utf16.specs.Scalar.{utf16}
-use Rattle.from_bytes.proofs.Running.{units-few}
+use Rattle.encoding.specs.declared.Target.the-variants.{Bytes, Units}
+use Rattle.encoding.proofs.Enough.{enough}
 use borrow.Author.Needs.{needs}
 use Rattle.from_bytes.proofs.repair_to_units.Statement.{statement}
 use Rattle.from_bytes.proofs.repair_to_units.Tie as tie
@@ -13,10 +16,18 @@ use Rattle.from_bytes.proofs.repair_to_units.Tie as tie
 returns : tie.Need-returns
 returns c = let a = c .before .before .before .args in repair-over (a .text .now) (converted utf8 utf16 (a .text .now)) (a .out .now) (c .if1 .taken)
 
+most-requires : tie.Need-most-requires
+most-requires c κs = search needs
+
+-- so much is enough for any text of this length
+roomy : (c : tie.Then2) → let a = c .before .before .before .before .before .args in length (converted utf8 utf16 (a .text .now)) ≤ length (a .out .now)
+roomy c =
+    let m = c .before in
+    let e = m .before in
+    omega (arith, enough Bytes Units (e .before .before .before .args .text .now) (e .if1 .left), m .most .ensures, c .if2 .taken)
+
 write-units-requires : tie.Need-write-units-requires
-write-units-requires c κs =
-    let t = c .before in
-    omega (arith, units-few (t .before .before .before .before .args .text .now), t .if2 .taken)
+write-units-requires c κs = roomy (c .before)
 
 same-length : tie.Need-same-length
 same-length c = search needs
@@ -25,9 +36,9 @@ returns-2 : tie.Need-returns-2
 returns-2 c =
     let w = c .before .before in
     let t = w .before .before in
-    let e = t .before in
+    let e = t .before .before in
     let a = e .before .before .before .args in
-    repair-done (a .text .now) (converted utf8 utf16 (a .text .now)) (a .out .now) (e .if1 .left) _ _ (omega (arith, units-few (a .text .now), t .if2 .taken))
+    repair-done (a .text .now) (converted utf8 utf16 (a .text .now)) (a .out .now) (e .if1 .left) _ _ (roomy t)
     (w .write-units .ensures .count) (w .write-units .ensures .output)
 
 need-requires : tie.Need-need-requires
@@ -36,7 +47,7 @@ need-requires c κs = search needs
 returns-3 : tie.Need-returns-3
 returns-3 c =
     let n = c .before in
-    let e = n .before .before in
+    let e = n .before .before .before in
     let a = e .before .before .before .args in
     repair-short (a .text .now) (converted utf8 utf16 (a .text .now)) (a .out .now) (e .if1 .left) (n .need .result) (n .need .ensures) (c .if3 .taken)
 
@@ -50,7 +61,7 @@ returns-4 : tie.Need-returns-4
 returns-4 c =
     let w = c .before .before in
     let n = w .before .before .before in
-    let e = n .before .before in
+    let e = n .before .before .before in
     let a = e .before .before .before .args in
     repair-done (a .text .now) (converted utf8 utf16 (a .text .now)) (a .out .now) (e .if1 .left) _ _ (omega (arith, n .need .ensures, w .before .before .if3 .left))
     (w .write-units2 .ensures .count) (w .write-units2 .ensures .output)
@@ -60,6 +71,7 @@ repair-to-units-spec =
     tie.close
     (tie.spec
     returns
+    most-requires
     write-units-requires
     same-length
     returns-2

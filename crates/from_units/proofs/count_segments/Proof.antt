@@ -8,7 +8,8 @@ use Rattle.utf8.specs.Scalar.{utf8}
 use Rattle.utf16.specs.Scalar.{utf16}
 use Rattle.utf16.proofs.Scalars.{utf16-faithful}
 use Rattle.encoding.proofs.Passing.{Passed, passed-start, passed-few, passed-next, passed-passes}
-use Rattle.from_units.proofs.Units.{bytes-most}
+use Rattle.encoding.specs.declared.Target.the-variants.{Bytes, Units}
+use Rattle.encoding.proofs.Enough.{text-few}
 use borrow.Author.Needs.{needs}
 use Rattle.from_units.proofs.count_segments.Statement.{statement}
 use Rattle.from_units.proofs.count_segments.Tie as tie
@@ -63,7 +64,7 @@ add-places : tie.Need-add-places Inv-loop μ-loop
 add-places c =
     let b = c .before .before .before .before .before .before in
     let t = b .args .text .now in
-    omega (arith, passed-few utf16 utf8 t _ _ (after c), bytes-most t, b .pre)
+    omega (arith, passed-few utf16 utf8 t _ _ (after c), text-few Units Bytes t, b .pre)
 
 add-at : tie.Need-add-at Inv-loop μ-loop
 add-at c = let m = here (c .before .before) in omega (arith, m .inside)

@@ -4,12 +4,13 @@ use mathlib.Core.Path.{ap, _∙_}
 use Prim.Native.Nat.{_+_, _-_}
 use lib.ListN.{length, length-drop}
 use native.Mathlib.Omega.{arith}
+use Rattle.encoding.specs.declared.Target.the-variants.{Bytes, Units}
+use Rattle.encoding.proofs.Enough.{text-few}
 use borrow.Author.Needs.{needs}
 use Rattle.terms.proofs.Walking.{part-is}
 use Rattle.utf8.specs.Scalar.{utf8}
 use Rattle.utf16.specs.Scalar.{utf16}
 use Rattle.encoding.proofs.Passing.{passes-part, Passed, passed-start, passed-few, passed-pass, passed-end}
-use Rattle.from_units.proofs.Units.{bytes-most}
 use Rattle.from_units.proofs.need_bytes.Statement.{statement}
 use Rattle.from_units.proofs.need_bytes.Tie as tie
 
@@ -57,7 +58,7 @@ add-total c =
     let p = c .before in
     let b = p .before .before .before .before .before in
     let t = b .args .text .now in
-    omega (arith, passed-few utf16 utf8 t _ _ (after p), bytes-most t, b .pre)
+    omega (arith, passed-few utf16 utf8 t _ _ (after p), text-few Units Bytes t, b .pre)
 
 add-at : tie.Need-add-at Inv-loop μ-loop
 add-at c = let a = after (c .before .before) in omega (arith, a .inside)

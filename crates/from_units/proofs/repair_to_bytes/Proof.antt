@@ -7,7 +7,8 @@ use Rattle.terms.specs.Form.{converted}
 use Rattle.terms.proofs.Answering.{repair-over, repair-short, repair-done}
 use Rattle.utf16.specs.Scalar.{utf16}
 use Rattle.utf8.specs.Scalar.{utf8}
-use Rattle.from_units.proofs.Units.{bytes-most}
+use Rattle.encoding.specs.declared.Target.the-variants.{Bytes, Units}
+use Rattle.encoding.proofs.Enough.{enough}
 use borrow.Author.Needs.{needs}
 use Rattle.from_units.proofs.repair_to_bytes.Statement.{statement}
 use Rattle.from_units.proofs.repair_to_bytes.Tie as tie
@@ -15,15 +16,18 @@ use Rattle.from_units.proofs.repair_to_bytes.Tie as tie
 returns : tie.Need-returns
 returns c = let a = c .before .before .before .args in repair-over (a .text .now) (converted utf16 utf8 (a .text .now)) (a .out .now) (c .if1 .taken)
 
-mul-if2 : tie.Need-mul-if2
-mul-if2 c = search needs
+most-requires : tie.Need-most-requires
+most-requires c κs = search needs
 
--- three places for each unit are enough
-enough : (c : tie.Then2) → let a = c .before .before .before .before .args in length (converted utf16 utf8 (a .text .now)) ≤ length (a .out .now)
-enough c = omega (arith, bytes-most (c .before .before .before .before .args .text .now), c .if2 .taken)
+-- so much is enough for any text of this length
+roomy : (c : tie.Then2) → let a = c .before .before .before .before .before .args in length (converted utf16 utf8 (a .text .now)) ≤ length (a .out .now)
+roomy c =
+    let m = c .before in
+    let e = m .before in
+    omega (arith, enough Units Bytes (e .before .before .before .args .text .now) (e .if1 .left), m .most .ensures, c .if2 .taken)
 
 write-bytes-requires : tie.Need-write-bytes-requires
-write-bytes-requires c κs = enough (c .before)
+write-bytes-requires c κs = roomy (c .before)
 
 same-length : tie.Need-same-length
 same-length c = search needs
@@ -32,8 +36,9 @@ returns-2 : tie.Need-returns-2
 returns-2 c =
     let w = c .before .before in
     let t = w .before .before in
-    let a = t .before .before .before .before .args in
-    repair-done (a .text .now) (converted utf16 utf8 (a .text .now)) (a .out .now) (t .before .if1 .left) _ _ (enough t)
+    let e = t .before .before in
+    let a = e .before .before .before .args in
+    repair-done (a .text .now) (converted utf16 utf8 (a .text .now)) (a .out .now) (e .if1 .left) _ _ (roomy t)
     (w .write-bytes .ensures .count) (w .write-bytes .ensures .output)
 
 need-bytes-requires : tie.Need-need-bytes-requires
@@ -42,7 +47,7 @@ need-bytes-requires c κs = search needs
 returns-3 : tie.Need-returns-3
 returns-3 c =
     let n = c .before in
-    let e = n .before .before in
+    let e = n .before .before .before in
     let a = e .before .before .before .args in
     repair-short (a .text .now) (converted utf16 utf8 (a .text .now)) (a .out .now) (e .if1 .left) (n .need-bytes .result) (n .need-bytes .ensures) (c .if3 .taken)
 
@@ -56,7 +61,7 @@ returns-4 : tie.Need-returns-4
 returns-4 c =
     let w = c .before .before in
     let n = w .before .before .before in
-    let e = n .before .before in
+    let e = n .before .before .before in
     let a = e .before .before .before .args in
     repair-done (a .text .now) (converted utf16 utf8 (a .text .now)) (a .out .now) (e .if1 .left) _ _ (omega (arith, n .need-bytes .ensures, w .before .before .if3 .left))
     (w .write-bytes2 .ensures .count) (w .write-bytes2 .ensures .output)
@@ -66,7 +71,7 @@ repair-to-bytes-spec =
     tie.close
     (tie.spec
     returns
-    mul-if2
+    most-requires
     write-bytes-requires
     same-length
     returns-2

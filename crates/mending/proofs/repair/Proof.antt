@@ -1,13 +1,17 @@
--- Refusal 2, then 3, then the form is written; where the output has three places for each byte there is room without counting.
+-- Refusal 2, then 3, then the form is written; where there is room for any text of this length, refusal 3 is not due.
 -- Assumes nothing.
+use Prim.Native.Nat.{_≤_}
+use lib.ListN.{length}
 use native.Mathlib.Omega.{arith}
-use Rattle.terms.specs.Form.{repaired}
+use Rattle.terms.specs.Form.{repaired, converted}
 use Rattle.terms.proofs.Answering.{repair-over, repair-short, repair-done}
 use Rattle.terms.proofs.Converting.{repaired-converted}
 use Rattle.utf8.specs.Scalar.{utf8}
 use Rattle.utf8.proofs.Scalars.{utf8-faithful}
+use Rattle.encoding.specs.declared.Target.the-variants.{Bytes}
+use Rattle.encoding.proofs.Enough.{enough}
 use Rattle.mending.proofs.Answering.{repair-roomed}
-use Rattle.mending.proofs.Running.{whole-same, bytes-few}
+use Rattle.mending.proofs.Running.{whole-same}
 use borrow.Author.Needs.{needs}
 use Rattle.mending.proofs.repair.Statement.{statement}
 use Rattle.mending.proofs.repair.Tie as tie
@@ -15,10 +19,18 @@ use Rattle.mending.proofs.repair.Tie as tie
 returns : tie.Need-returns
 returns c = let a = c .before .before .before .args in repair-over (a .text .now) (repaired utf8 (a .text .now)) (a .out .now) (c .if1 .taken)
 
+most-requires : tie.Need-most-requires
+most-requires c κs = search needs
+
+-- so much is enough for any text of this length
+roomy : (c : tie.Then2) → let a = c .before .before .before .before .before .args in length (converted utf8 utf8 (a .text .now)) ≤ length (a .out .now)
+roomy c =
+    let m = c .before in
+    let e = m .before in
+    omega (arith, enough Bytes Bytes (e .before .before .before .args .text .now) (e .if1 .left), m .most .ensures, c .if2 .taken)
+
 write-bytes-requires : tie.Need-write-bytes-requires
-write-bytes-requires c κs =
-    let t = c .before in
-    omega (arith, bytes-few (t .before .before .before .before .args .text .now), t .if2 .taken)
+write-bytes-requires c κs = roomy (c .before)
 
 same-length : tie.Need-same-length
 same-length c = search needs
@@ -27,9 +39,9 @@ returns-2 : tie.Need-returns-2
 returns-2 c =
     let w = c .before .before in
     let t = w .before .before in
-    let e = t .before in
+    let e = t .before .before in
     let a = e .before .before .before .args in
-    repair-done (a .text .now) (repaired utf8 (a .text .now)) (a .out .now) (e .if1 .left) _ _ (rw (repaired-converted utf8-faithful (a .text .now)) (omega (arith, bytes-few (a .text .now), t .if2 .taken)))
+    repair-done (a .text .now) (repaired utf8 (a .text .now)) (a .out .now) (e .if1 .left) _ _ (rw (repaired-converted utf8-faithful (a .text .now)) (roomy t))
     (rw (repaired-converted utf8-faithful (a .text .now)) (w .write-bytes .ensures .count)) (rw (repaired-converted utf8-faithful (a .text .now)) (w .write-bytes .ensures .output))
 
 whole-run-requires : tie.Need-whole-run-requires
@@ -46,7 +58,7 @@ returns-3 c =
     let w = c .before .before in
     let t = w .before .before in
     let h = t .before in
-    let e = h .before .before in
+    let e = h .before .before .before in
     let a = e .before .before .before .args in
     rw (whole-same (a .text .now) (h .whole-run .result) (h .whole-run .ensures) (t .if3 .taken))
     (repair-roomed (a .text .now) (a .text .now) (a .out .now) (w .repair-whole .last .1 .0) (w .repair-whole .result) (e .if1 .left) (w .repair-whole .ensures))
@@ -57,7 +69,7 @@ need-bytes-requires c κs = search needs
 returns-4 : tie.Need-returns-4
 returns-4 c =
     let n = c .before in
-    let e = n .before .before .before .before in
+    let e = n .before .before .before .before .before in
     let a = e .before .before .before .args in
     repair-short (a .text .now) (repaired utf8 (a .text .now)) (a .out .now) (e .if1 .left) (n .need-bytes .result)
     (rw (repaired-converted utf8-faithful (a .text .now)) (n .need-bytes .ensures)) (c .if4 .taken)
@@ -72,7 +84,7 @@ returns-5 : tie.Need-returns-5
 returns-5 c =
     let w = c .before .before in
     let n = w .before .before .before in
-    let e = n .before .before .before .before in
+    let e = n .before .before .before .before .before in
     let a = e .before .before .before .args in
     repair-done (a .text .now) (repaired utf8 (a .text .now)) (a .out .now) (e .if1 .left) _ _ (rw (repaired-converted utf8-faithful (a .text .now)) (omega (arith, n .need-bytes .ensures, w .before .before .if4 .left)))
     (rw (repaired-converted utf8-faithful (a .text .now)) (w .write-bytes2 .ensures .count)) (rw (repaired-converted utf8-faithful (a .text .now)) (w .write-bytes2 .ensures .output))
@@ -82,6 +94,7 @@ repair-spec =
     tie.close
     (tie.spec
     returns
+    most-requires
     write-bytes-requires
     same-length
     returns-2
