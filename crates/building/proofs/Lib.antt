@@ -1,2 +1,3 @@
-pub mod Building
-pub mod Builds
+pub mod Cutting
+pub mod Taking
+pub mod Once

@@ -1,19 +1,12 @@
-// An index that is built in pieces: the calls of the builder one after another, up to the first refusal.
+// An index that is built in pieces: the calls of the builder one after another. A refused piece is fed with the next one.
 use builder::Builder;
 use builder::Building;
 use terms::Decoder;
 ghost use mathlib.Core.Path.{_≡_};
-ghost use mathlib.Core.List.{[], _∷_};
-ghost use Rattle.building.specs.Builds.{isGranted, mayRefuse, builds, built, Builds};
-
-fn is_granted(answer: Building) -> bool
-    ensures { λ r. ⌜ r ≡ isGranted answer ⌝ }
-{
-    match answer {
-        Building::Done => true,
-        Building::Refused(_) => false,
-    }
-}
+ghost use lib.ListN.{getD};
+ghost use Rattle.terms.specs.Told.{isGranted, ifGranted};
+ghost use Rattle.builder.specs.State.{building};
+ghost use Rattle.building.specs.Builds.{mayRefuse, finished, built, Builds};
 
 // A build is refused only where the text is over the limit or the row is too short for its index.
 pub fn may_refuse(long: usize, room: usize) -> bool
@@ -22,42 +15,65 @@ pub fn may_refuse(long: usize, room: usize) -> bool
     if Decoder::LIMIT < long {
         return true;
     }
-    room < 4 * (long / checkpoints::SPACING + 1)
+    room < checkpoints::needed(long)
 }
 
-// The last piece and the end, up to the first refusal.
-fn build_rest(state: Builder, rest: &[u8], row: &mut [u32]) -> bool
-    ensures { λ r. ⌜ Builds (builds state (now (rest .entry) ∷ []) (now (row .entry))) (now (row .exit)) r ⌝ }
+fn is_granted(answer: Building) -> bool
+    ensures { λ r. ⌜ r ≡ isGranted (building answer) ⌝ }
 {
-    let fed = build::feed(state, rest, row);
-    let answer = fed.answer;
-    if !is_granted(answer) {
-        return false;
+    match answer {
+        Building::Done => true,
+        Building::Refused(_) => false,
     }
-    let next = fed.state;
-    let ended = build::finish(next, row);
-    let last = ended.answer;
-    is_granted(last)
 }
 
-// Each piece, the rest and the end, up to the first refusal: was every call granted?
+// Cut position k; behind the last one the end of the text.
+fn cut_at(cuts: &[usize], k: usize, end: usize) -> usize
+    ensures { λ r. ⌜ r ≡ getD (now (cuts .entry)) k end ⌝ }
+{
+    if k < cuts.len() {
+        return cuts[k];
+    }
+    end
+}
+
+// Where the next piece begins: behind a piece that was taken.
+fn next_from(answer: Building, from: usize, to: usize) -> usize
+    ensures { λ r. ⌜ r ≡ ifGranted (building answer) to from ⌝ }
+{
+    match answer {
+        Building::Done => to,
+        Building::Refused(_) => from,
+    }
+}
+
+// The end of the text: was it granted?
+fn end(state: Builder, row: &mut [u32]) -> bool
+    ensures { λ r. ⌜ Builds (finished state (now (row .entry))) (now (row .exit)) r ⌝ }
+{
+    let ended = build::finish(state, row);
+    let answer = ended.answer;
+    is_granted(answer)
+}
+
+// A piece to each cut position and then the rest, and the end where all of the text was taken: was the index built?
 pub fn build_in_pieces(text: &[u8], cuts: &[usize], row: &mut [u32]) -> bool
     ensures { λ r. ⌜ Builds (built (now (text .entry)) (now (cuts .entry)) (now (row .entry))) (now (row .exit)) r ⌝ }
 {
     let mut state = Builder::fresh();
     let mut from: usize = 0;
     let mut k: usize = 0;
-    while k < cuts.len() {
-        let to = comparing::bring(cuts[k], from, text.len());
+    while k <= cuts.len() {
+        let to = comparing::bring(cut_at(cuts, k, text.len()), from, text.len());
         let fed = build::feed(state, &text[from..to], row);
-        let answer = fed.answer;
-        if !is_granted(answer) {
-            return false;
-        }
         let next = fed.state;
+        let answer = fed.answer;
         state = next;
-        from = to;
+        from = next_from(answer, from, to);
         k += 1;
     }
-    build_rest(state, &text[from..], row)
+    if from < text.len() {
+        return false;
+    }
+    end(state, row)
 }

@@ -1,24 +1,33 @@
--- The comparison: it says yes of a list and itself, and goes element by element.
+-- The comparison: it says yes exactly of a list and itself, and goes element by element.
 -- Assumes nothing.
 use mathlib.Core.Path.{_≡_, refl, sym, ap, ap₂, _∙_}
 use Prim.Native.Nat.{ℕ, _+_, _≤_, _<_}
 use native.Mathlib.Numerals.{add-one}
-use mathlib.Core.Bool.{true, false, _&&_}
+use mathlib.Core.Bool.{true, false, _&&_, true≢false}
 use mathlib.Core.List.{List, [], _∷_}
 use lib.ListN.{length, getD, drop, drop-of-length-le}
 use lib.Seq.{drop-cons}
 use lib.Dec.{eqb}
-use borrow.Author.Tests.{eq-eqb, ne-eqb}
+use borrow.Author.Tests.{eq-eqb, ne-eqb, eqb-true}
 use native.Mathlib.Omega.{arith}
-use Rattle.division.proofs.Cases.{split}
+use Rattle.division.proofs.Cases.{split, both}
 use Rattle.comparing.specs.Equal.{equal}
 
 pub equal-same : (xs : List ℕ) → equal xs xs ≡ true
 equal-same [] = refl
 equal-same (x ∷ xs) = rw (eq-eqb x x refl) (equal-same xs)
 
-equal-yes : (xs ys : List ℕ) → xs ≡ ys → equal xs ys ≡ true
+pub equal-yes : (xs ys : List ℕ) → xs ≡ ys → equal xs ys ≡ true
 equal-yes xs ys e = ap (equal xs) (sym e) ∙ equal-same xs
+
+-- and only of these
+pub equal-only : (xs ys : List ℕ) → equal xs ys ≡ true → xs ≡ ys
+equal-only [] [] e = refl
+equal-only [] (y ∷ ys) e = absurd (true≢false (sym e))
+equal-only (x ∷ xs) [] e = absurd (true≢false (sym e))
+equal-only (x ∷ xs) (y ∷ ys) e =
+    let b = both (eqb x y) (equal xs ys) e in
+    ap₂ (λ (n : ℕ) (l : List ℕ). n ∷ l) (eqb-true x y (b .0)) (equal-only xs ys (b .1))
 
 -- what is written twice, and what is stored
 pub equal-all : (p w o k l : List ℕ) → p ≡ w → p ≡ o → k ≡ l → (equal p w && equal p o && equal k l) ≡ true

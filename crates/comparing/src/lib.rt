@@ -1,5 +1,6 @@
-// What the demands share: cut positions brought into a text, and texts compared.
+// What the demands share: cut positions brought into a text, the smaller of two numbers, and texts compared.
 ghost use mathlib.Core.Path.{_≡_};
+ghost use Prim.Native.Nat.{min};
 ghost use Rattle.comparing.specs.Cuts.{bring};
 ghost use Rattle.comparing.specs.Equal.{equal};
 
@@ -14,6 +15,16 @@ pub fn bring(cut: usize, from: usize, end: usize) -> usize
         return end;
     }
     cut
+}
+
+// The smaller of two numbers.
+pub fn least(a: usize, b: usize) -> usize
+    ensures { λ r. ⌜ r ≡ min a b ⌝ }
+{
+    if a < b {
+        return a;
+    }
+    b
 }
 
 // Have they the same elements?

@@ -7,8 +7,7 @@ use mathlib.Core.List.{List}
 use lib.ListN.{length, take}
 use lib.Seq.{length-take-le}
 use Rattle.division.proofs.Placing.{PlaceOf, place-in}
-use Rattle.utf8.specs.Bytes.{bytes}
-use Rattle.place.specs.Measures.{ruler}
+use Rattle.place.specs.Measures.{ruler, reader}
 use Rattle.place.specs.Cutting.{beginning}
 use Rattle.place.specs.Lookup.{placed, lookupSays}
 use Rattle.place.specs.declared.Place.{Place}
@@ -21,11 +20,11 @@ use Rattle.comparing.specs.Equal.{equal}
 use Rattle.comparing.proofs.Comparing.{equal-same}
 
 module _ (text : List ℕ) (p : Place) (h : IsPlace text p) where
-  found : PlaceOf bytes ruler text p
+  found : PlaceOf reader ruler text p
   found = finds-place (λ q. q .bytes) (p .bytes) text p h
 
   pub place-long : p .bytes ≡ length (take (p .bytes) text)
-  place-long = sym (length-take-le (p .bytes) text (place-in bytes measured text found))
+  place-long = sym (length-take-le (p .bytes) text (place-in reader measured text found))
 
   -- what is cut by a count of it is what lies before it
   pub same-cut : (m : Place → ℕ) → Rising m → {part : List ℕ} {r : Bool} → part ≡ beginning m (m p) text → r ≡ equal part (take (p .bytes) text) → r ≡ true

@@ -1,1 +1,2 @@
 pub mod LookingUp
+pub mod Auditing

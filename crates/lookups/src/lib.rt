@@ -9,8 +9,8 @@ use terms::Refusal;
 ghost use mathlib.Core.Path.{_≡_};
 ghost use mathlib.Core.Logic.{_↔_};
 ghost use mathlib.Core.Bool.{true};
+ghost use Rattle.index.specs.Agreeing.{AsPlain};
 ghost use Rattle.building.specs.Builds.{built};
-ghost use Rattle.lookups.specs.Lookups.{IsIndex};
 
 pub mod audits;
 
@@ -44,9 +44,9 @@ fn same(a: Placed, b: Placed) -> bool
     }
 }
 
-// Over the index of a text, each of the four lookups answers as the plain one.
+// Over a row that stands for a text's index, each of the four lookups is the plain one.
 fn agree(text: &[u8], row: &[u32], byte: Bytes, unit: Units, point: Points, line: Lines) -> bool
-    requires { ⌜ IsIndex (now text) (now row) ⌝ }
+    requires { ⌜ AsPlain (now row) (now text) ⌝ }
     ensures { λ r. ⌜ r ≡ true ⌝ }
 {
     same(index::at_byte(text, row, byte), lookup::at_byte(text, byte))

@@ -1,2 +1,3 @@
 pub mod Leaving
 pub mod Matching
+pub mod Once

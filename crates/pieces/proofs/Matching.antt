@@ -1,8 +1,8 @@
--- What both ways have found is the same: the totals, and the stored entries.
+-- What both ways have found is the same: the totals, and the stored entries; and a refusal is due.
 -- Assumes nothing.
 use mathlib.Core.Path.{_≡_, refl, sym, ap, _∙_}
 use Prim.Native.Nat.{ℕ, _*_, min, _≤_}
-use mathlib.Core.Bool.{true}
+use mathlib.Core.Bool.{Bool, true, false, not}
 use mathlib.Core.List.{List}
 use lib.ListN.{length, take, drop, length-take}
 use lib.Seq.{take-at, length-sets}
@@ -13,29 +13,30 @@ use Rattle.division.specs.Table.{isDamage}
 use Rattle.division.specs.Tally.{written, entries}
 use Rattle.division.proofs.Rows.{sets-start, written-fixed}
 use Rattle.division.proofs.Tallying.{entries-length}
+use Rattle.terms.specs.Limits.{entryWidth}
 use Rattle.utf8.specs.Bytes.{bytes}
 use Rattle.repair.specs.State.{numbers}
-use Rattle.feeds.specs.Feeds.{Given}
+use Rattle.feeds.specs.Feeds.{Given, enough}
 use Rattle.feeds.proofs.Joining.{Ran}
 use Rattle.pieces.specs.Pieces.{sameTotals}
 
-module _ (room : ℕ) (row text : List ℕ) (v : Given) (r : Ran room row text v) where
+module _ (room : ℕ) (row text out : List ℕ) (v : Given) (r : Ran room row text out v) where
   abbrev stored : ℕ
-  stored = 2 * min room (v .found .count)
+  stored = entryWidth * min room (v .found .count)
 
   pub stored-in : stored ≤ length (v .list)
-  stored-in = rw (r .list-is) (omega (arith, r .long, length-sets row 0 (written numbers (take room (entries isDamage 0 (cut bytes text))))))
+  stored-in = rw (r .list-is) (omega (arith, r .listed-in, length-sets row 0 (written numbers (take room (entries isDamage 0 (cut bytes text))))))
 
   -- the first entries of the text, as far as there is room
   stored-is : take stored (v .list) ≡ written numbers (take room (entries isDamage 0 (cut bytes text)))
   stored-is =
       let es = entries isDamage 0 (cut bytes text) in
       let ns : List ℕ = written numbers (take room es) in
-      let long : length ns ≡ 2 * length (take room es) = written-fixed numbers 2 (λ e. refl) (take room es) in
+      let long : length ns ≡ entryWidth * length (take room es) = written-fixed numbers entryWidth (λ e. refl) (take room es) in
       let few : length ns ≡ stored = omega (arith, long, length-take room es, entries-length isDamage 0 (cut bytes text), r .count-is) in
-      ap (take stored) (r .list-is ∙ sets-start row ns (omega (arith, few, r .long))) ∙ take-at ns (drop (length ns) row) stored few
+      ap (take stored) (r .list-is ∙ sets-start row ns (omega (arith, few, r .listed-in))) ∙ take-at ns (drop (length ns) row) stored few
 
-module _ (room : ℕ) (row row′ text : List ℕ) (v w : Given) (r : Ran room row text v) (s : Ran room row′ text w) where
+module _ (room : ℕ) (row row′ text out out′ : List ℕ) (v w : Given) (r : Ran room row text out v) (s : Ran room row′ text out′ w) where
   same-count : v .found .count ≡ w .found .count
   same-count = r .count-is ∙ sym (s .count-is)
 
@@ -46,9 +47,16 @@ module _ (room : ℕ) (row row′ text : List ℕ) (v w : Given) (r : Ran room r
     eq-eqb (v .found .count) (w .found .count) same-count,
   )
 
-  pub stored-in-other : 2 * min room (v .found .count) ≤ length (w .list)
-  stored-in-other = rw same-count (stored-in room row′ text w s)
+  pub stored-in-other : entryWidth * min room (v .found .count) ≤ length (w .list)
+  stored-in-other = rw same-count (stored-in room row′ text out′ w s)
 
-  pub same-stored : take (2 * min room (v .found .count)) (w .list) ≡ take (2 * min room (v .found .count)) (v .list)
+  pub same-stored : take (entryWidth * min room (v .found .count)) (w .list) ≡ take (entryWidth * min room (v .found .count)) (v .list)
   same-stored =
-      ap (λ (n : ℕ). take (2 * min room n) (w .list)) same-count ∙ stored-is room row′ text w s ∙ sym (stored-is room row text v r)
+      ap (λ (n : ℕ). take (entryWidth * min room n) (w .list)) same-count ∙ stored-is room row′ text out′ w s ∙ sym (stored-is room row text out v r)
+
+-- ---- a refusal of the feeds is due: what was not granted had no room, in buffers that kept their lengths
+pub refused-due : (room : ℕ) {row row′ form form′ places places′ : ℕ} → row′ ≡ row → form′ ≡ form → places′ ≡ places
+    → (granted asked : Bool) → granted ≡ enough room row form places → asked ≡ enough room row′ form′ places′ → granted ≡ false → not asked ≡ true
+refused-due room {row} {row′} {form} {form′} {places} {places′} e f p granted asked g a refused =
+    let same : enough room row′ form′ places′ ≡ enough room row form places = rw (e, f, p) in
+    ap not (a ∙ same ∙ sym g ∙ refused)

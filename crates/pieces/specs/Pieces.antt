@@ -1,17 +1,22 @@
--- One feed of a text and a feed of each of its pieces, in buffers of their own, beside the whole repair.
+-- One feed of a text and the feeds of its pieces, in buffers of their own, beside the whole repair.
 -- Assumes nothing.
 use mathlib.Core.Path.{_≡_}
 use Prim.Native.Nat.{ℕ}
-use mathlib.Core.Bool.{Bool, true, _&&_}
-use mathlib.Core.List.{List}
-use lib.ListN.{length}
-use lib.Dec.{eqb}
+use mathlib.Core.Bool.{Bool, true, cond, _&&_}
+use mathlib.Core.List.{List, [], _∷_}
+use lib.ListN.{length, getD}
+use lib.Dec.{ltb, eqb}
 use Rattle.terms.specs.Form.{repaired}
+use Rattle.terms.specs.Limits.{limit}
 use Rattle.terms.specs.Told.{ifGranted}
 use Rattle.terms.specs.Writing.{outputOf, repairSays}
 use Rattle.utf8.specs.Scalar.{utf8}
-use Rattle.feeds.specs.Feeds.{once, parts}
+use Rattle.feeds.specs.Feeds.{through, whole, pieces}
 use Rattle.feeds.specs.declared.Found.{Found}
+
+-- the whole repair's refusal is due: 2 where the text is over the limit, 3 where there are fewer places than it says are needed
+abbrev pub due : List ℕ → ℕ → ℕ → Bool
+due says size places = cond (eqb (getD says 0 0) 2) (ltb limit size) (eqb (getD says 0 0) 3 && ltb places (getD says 1 0))
 
 abbrev pub sameTotals : Found → Found → Bool
 sameTotals a b = eqb (a .whole) (b .whole) && (eqb (a .damaged) (b .damaged) && eqb (a .count) (b .count))
@@ -27,18 +32,18 @@ abbrev pub lent : List ℕ → List ℕ → List ℕ → List ℕ → List ℕ �
 lent whole once once-list parts parts-list =
     record { whole = whole; once = once; once-list = once-list; parts = parts; parts-list = parts-list }
 
-abbrev pub bothFed : ℕ → List ℕ → List ℕ → Lent → Lent
-bothFed room text cuts l =
-    let a = once room text (l .once) (l .once-list) in
-    let b = parts room text cuts (l .parts) (l .parts-list) in
+abbrev pub bothFed : ℕ → List ℕ → List ℕ → ℕ → Lent → Lent
+bothFed room text cuts scant l =
+    let a = through room text (whole text (l .once) ∷ []) (l .once) (l .once-list) in
+    let b = through room text (pieces text cuts scant (l .parts)) (l .parts) (l .parts-list) in
     lent (l .whole) (a .out) (a .list) (b .out) (b .list)
 
 -- WHAT IS LEFT IN THE LENT BUFFERS: the whole repair, and where it is granted, what one feed and what the feeds of pieces leave
-abbrev pub leaves : ℕ → List ℕ → List ℕ → Lent → Lent
-leaves room text cuts l =
+abbrev pub leaves : ℕ → List ℕ → List ℕ → ℕ → Lent → Lent
+leaves room text cuts scant l =
     let says = repairSays (length (l .whole)) text (repaired utf8 text) in
     let w = outputOf says (repaired utf8 text) (l .whole) in
-    ifGranted says (bothFed room text cuts (lent w (l .once) (l .once-list) (l .parts) (l .parts-list))) l
+    ifGranted says (bothFed room text cuts scant (lent w (l .once) (l .once-list) (l .parts) (l .parts-list))) l
 
 -- the answer is yes, and the buffers hold what they should
 pub record Yes (new should : Lent) (r : Bool) : Type 0 where

@@ -1,21 +1,44 @@
 // Pieces: fed in any pieces and finished, a text gives what its whole repair writes, and the entries and totals of one feed.
 use feeds::Found;
+use terms::Decoder;
+use terms::Refusal;
 use terms::Written;
 ghost use mathlib.Core.Path.{_≡_};
-ghost use Prim.Native.Nat.{min};
+ghost use Prim.Native.Nat.{_≤_};
 ghost use mathlib.Core.Bool.{_&&_};
+ghost use lib.ListN.{length};
 ghost use Rattle.terms.specs.Form.{repaired};
+ghost use Rattle.terms.specs.Limits.{limit};
+ghost use Rattle.terms.specs.Told.{refusal};
 ghost use Rattle.utf8.specs.Scalar.{utf8};
 ghost use Rattle.comparing.specs.Equal.{equal};
+ghost use Rattle.feeds.specs.Feeds.{enough};
 ghost use Rattle.pieces.specs.Pieces as specs;
 
-fn least(a: usize, b: usize) -> usize
-    ensures { λ r. ⌜ r ≡ min a b ⌝ }
+// Was the whole repair's refusal due: is the text over the limit, or are there fewer places than it says are needed?
+fn is_due(why: Refusal, size: usize, places: usize) -> bool
+    ensures { λ r. ⌜ r ≡ specs.due (refusal why) size places ⌝ }
 {
-    if a < b {
-        return a;
+    if why.number() == 2 {
+        return Decoder::LIMIT < size;
     }
-    b
+    if why.number() != 3 {
+        return false;
+    }
+    places < why.first()
+}
+
+// Is there room for a start, for the entries in the list, and for the form in the output?
+fn is_enough(room: usize, row: usize, form: usize, places: usize) -> bool
+    ensures { λ r. ⌜ r ≡ enough room row form places ⌝ }
+{
+    if Decoder::ROOM < room {
+        return false;
+    }
+    if row < Decoder::ENTRY * room {
+        return false;
+    }
+    form <= places
 }
 
 fn same_totals(a: Found, b: Found) -> bool
@@ -50,10 +73,12 @@ fn same_texts(
     comparing::same_codes(parts_list, once_list)
 }
 
-// Both ways, into buffers of their own: is the same found, and is it what the whole repair has written?
+// Both ways, into buffers of their own: is the same found, is it what the whole repair has written, and is a refusal due?
 fn fed_alike(
     text: &[u8],
     cuts: &[usize],
+    scant: usize,
+    trying: bool,
     room: usize,
     whole: &[u8],
     once: &mut [u8],
@@ -61,27 +86,30 @@ fn fed_alike(
     parts: &mut [u8],
     parts_list: &mut [u32],
 ) -> bool
-    requires { ⌜ now whole ≡ repaired utf8 (now text) ⌝ }
+    requires { ⌜ (now whole ≡ repaired utf8 (now text)) × (length (now text) ≤ limit) ⌝ }
     ensures { λ r. ⌜ specs.Yes
         (specs.lent (now (whole .entry)) (now (once .exit)) (now («once_list» .exit)) (now (parts .exit)) (now («parts_list» .exit)))
-        (specs.bothFed room (now (text .entry)) (now (cuts .entry))
+        (specs.bothFed room (now (text .entry)) (now (cuts .entry)) scant
         (specs.lent (now (whole .entry)) (now (once .entry)) (now («once_list» .entry)) (now (parts .entry)) (now («parts_list» .entry))))
         r ⌝ }
 {
     let a = feeds::feed_once(text, room, once, once_list);
-    let b = feeds::feed_pieces(text, cuts, room, parts, parts_list);
+    let b = feeds::feed_pieces(text, cuts, scant, trying, room, parts, parts_list);
+    if !b.refuses {
+        return false;
+    }
     if !a.granted {
-        return true;
+        return !is_enough(room, once_list.len(), whole.len(), once.len());
     }
     if !b.granted {
-        return true;
+        return !is_enough(room, parts_list.len(), whole.len(), parts.len());
     }
     if !same_totals(a, b) {
         return false;
     }
     let i = a.written;
     let j = b.written;
-    let n = 2 * least(room, a.count);
+    let n = Decoder::ENTRY * comparing::least(room, a.count);
     same_texts(
         whole,
         &once[..i],
@@ -91,11 +119,12 @@ fn fed_alike(
     )
 }
 
-// Is a text that is fed in pieces, cut anywhere, and finished what its whole repair writes, with the totals and the stored
-// entries of one single feed and finish? Yes where a call is refused.
-pub fn pieces(
+// The whole repair, and then both ways.
+fn alike(
     text: &[u8],
     cuts: &[usize],
+    scant: usize,
+    trying: bool,
     room: usize,
     whole: &mut [u8],
     once: &mut [u8],
@@ -105,7 +134,7 @@ pub fn pieces(
 ) -> bool
     ensures { λ r. ⌜ specs.Yes
         (specs.lent (now (whole .exit)) (now (once .exit)) (now («once_list» .exit)) (now (parts .exit)) (now («parts_list» .exit)))
-        (specs.leaves room (now (text .entry)) (now (cuts .entry))
+        (specs.leaves room (now (text .entry)) (now (cuts .entry)) scant
         (specs.lent (now (whole .entry)) (now (once .entry)) (now («once_list» .entry)) (now (parts .entry)) (now («parts_list» .entry))))
         r ⌝ }
 {
@@ -113,6 +142,8 @@ pub fn pieces(
         Written::Count(n) => fed_alike(
             text,
             cuts,
+            scant,
+            trying,
             room,
             &whole[..n],
             once,
@@ -120,6 +151,71 @@ pub fn pieces(
             parts,
             parts_list,
         ),
-        Written::Refused(_) => true,
+        Written::Refused(why) => is_due(why, text.len(), whole.len()),
     }
+}
+
+// Is a text that is fed in pieces, cut anywhere, each tried in a few places only and then in all the rest, and finished what its
+// whole repair writes, with the totals and the stored entries of one single feed and finish? A refusal must be due.
+pub fn pieces(
+    text: &[u8],
+    cuts: &[usize],
+    scant: usize,
+    room: usize,
+    whole: &mut [u8],
+    once: &mut [u8],
+    once_list: &mut [u32],
+    parts: &mut [u8],
+    parts_list: &mut [u32],
+) -> bool
+    ensures { λ r. ⌜ specs.Yes
+        (specs.lent (now (whole .exit)) (now (once .exit)) (now («once_list» .exit)) (now (parts .exit)) (now («parts_list» .exit)))
+        (specs.leaves room (now (text .entry)) (now (cuts .entry)) scant
+        (specs.lent (now (whole .entry)) (now (once .entry)) (now («once_list» .entry)) (now (parts .entry)) (now («parts_list» .entry))))
+        r ⌝ }
+{
+    alike(
+        text,
+        cuts,
+        scant,
+        false,
+        room,
+        whole,
+        once,
+        once_list,
+        parts,
+        parts_list,
+    )
+}
+
+// The same where between the pieces calls are tried that must be refused with 8, 2, 7 and 3: each is, with its number.
+pub fn between(
+    text: &[u8],
+    cuts: &[usize],
+    scant: usize,
+    room: usize,
+    whole: &mut [u8],
+    once: &mut [u8],
+    once_list: &mut [u32],
+    parts: &mut [u8],
+    parts_list: &mut [u32],
+) -> bool
+    ensures { λ r. ⌜ specs.Yes
+        (specs.lent (now (whole .exit)) (now (once .exit)) (now («once_list» .exit)) (now (parts .exit)) (now («parts_list» .exit)))
+        (specs.leaves room (now (text .entry)) (now (cuts .entry)) scant
+        (specs.lent (now (whole .entry)) (now (once .entry)) (now («once_list» .entry)) (now (parts .entry)) (now («parts_list» .entry))))
+        r ⌝ }
+{
+    alike(
+        text,
+        cuts,
+        scant,
+        true,
+        room,
+        whole,
+        once,
+        once_list,
+        parts,
+        parts_list,
+    )
 }

@@ -1,2 +1,4 @@
+pub mod Due
 pub mod Returning
 pub mod Rounds
+pub mod Once

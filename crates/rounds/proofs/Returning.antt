@@ -1,16 +1,17 @@
--- There and back: what a strict conversion wrote, and that the way back gives the text.
+-- There and back: what a strict conversion wrote, that the way back gives the text, and that a refusal was due.
 -- Assumes nothing.
-use mathlib.Core.Path.{_≡_, refl, sym, ap, subst, _∙_}
+use mathlib.Core.Path.{_≡_, sym, ap, subst, _∙_}
 use Prim.Native.Nat.{ℕ, _≤_}
-use mathlib.Core.Bool.{Bool, true, false, cond}
+use mathlib.Core.Bool.{Bool, false}
 use mathlib.Core.List.{List, [], _∷_, _++_}
 use lib.ListN.{length, getD, take, drop}
 use lib.Seq.{take-at}
-use lib.Dec.{eqb}
 use Rattle.division.specs.Table.{Kind}
 use Rattle.division.specs.Tally.{Entry}
 use Rattle.terms.specs.Form.{Form, converted}
-use Rattle.terms.specs.Told.{written, ifGranted}
+use Rattle.terms.specs.Limits.{limit}
+use Rattle.terms.specs.Strict.{damages, strictly, limited}
+use Rattle.terms.specs.Told.{refusal, written, isGranted, ifGranted}
 use Rattle.terms.specs.Writing.{outputOf, Writes, convertSays}
 use Rattle.terms.specs.declared.Refusal.{Refusal}
 use Rattle.terms.specs.declared.Written.{Written}
@@ -19,7 +20,9 @@ use Rattle.terms.proofs.Converting.{Refuses, Granted, granted-says, says-grante
 use Rattle.terms.proofs.Forms.{Faithful}
 use Rattle.terms.proofs.Telling.{no-zero}
 use Rattle.comparing.specs.Equal.{equal}
+use Rattle.rounds.specs.Due.{dueThere, dueBack}
 use Rattle.rounds.specs.Rounds.{Back, Round}
+use Rattle.rounds.proofs.Due.{Strict, due-there, due-back}
 use Rattle.comparing.proofs.Comparing.{equal-same}
 
 -- a strict conversion that was called
@@ -29,8 +32,11 @@ module _ (refuse : Entry Kind → List ℕ) (F G : Form) (text out : List ℕ) {
   says = convertSays refuse F G (length out) text
 
   -- it refused
-  refused-says : (q : Refusal) → r ≡ Refused q → eqb (getD says 0 0) 0 ≡ false
-  refused-says q e = ap (λ (l : List ℕ). eqb (getD l 0 0) 0) (sym (w .answer) ∙ ap written e) ∙ no-zero q
+  refused-as : (q : Refusal) → r ≡ Refused q → says ≡ refusal q
+  refused-as q e = sym (w .answer) ∙ ap written e
+
+  refused-says : (q : Refusal) → r ≡ Refused q → isGranted says ≡ false
+  refused-says q e = ap isGranted (refused-as q e) ∙ no-zero q
 
   -- or it granted, and wrote so many places
   module _ (refuses : Refuses refuse) (n : ℕ) (e : r ≡ Count n) where
@@ -57,52 +63,64 @@ module _ (refuse : Entry Kind → List ℕ) (F G : Form) (text out : List ℕ) {
 -- THE WAY BACK
 module _ (refuse : Entry Kind → List ℕ) (G F : Form) (text between back : List ℕ) {back′ : List ℕ} {r : Written}
     (w : Writes (convertSays refuse G F (length back) between) (converted G F between) back back′ r) where
+  -- the answer, from what the conversion says
+  abbrev answerOf : List ℕ → Bool
+  answerOf l = ifGranted l (equal text (converted G F between)) (dueBack l (length between) (length back) (length text))
+
   pub back-granted : Refuses refuse → (n : ℕ) → r ≡ Count n → (b : Bool) → b ≡ equal text (take n back′) → Back refuse G F text between back back′ b
   back-granted refuses n e b h = record {
     answer =
         h
         ∙ ap (equal text) (count-wrote refuse G F between back w refuses n e)
-        ∙ sym (ap (λ (l : List ℕ). ifGranted l (equal text (converted G F between)) true) (count-says refuse G F between back w refuses n e));
+        ∙ sym (ap answerOf (count-says refuse G F between back w refuses n e));
     returned = w .output;
   }
 
-  pub back-refused : (q : Refusal) → r ≡ Refused q → Back refuse G F text between back back′ true
-  back-refused q e = record {
-    answer = sym (ap (λ (b : Bool). cond b (equal text (converted G F between)) true) (refused-says refuse G F between back w q e));
+  pub back-refused : (q : Refusal) → r ≡ Refused q → (b : Bool) → b ≡ dueBack (refusal q) (length between) (length back) (length text)
+      → Back refuse G F text between back back′ b
+  back-refused q e b h = record {
+    answer = h ∙ sym (ap answerOf (refused-as refuse G F between back w q e) ∙ rw (no-zero q));
     returned = w .output;
   }
 
 -- THERE AND BACK
 module _ (refuse refuse′ : Entry Kind → List ℕ) (F G : Form) (text between : List ℕ) {between′ : List ℕ} {r : Written}
     (w : Writes (convertSays refuse F G (length between) text) (converted F G text) between between′ r) where
-  pub round-refused : (back : List ℕ) (q : Refusal) → r ≡ Refused q → Round refuse refuse′ F G text between back between′ back true
-  round-refused back q e = record {
-    yes = refl;
-    there = w .output;
-    returned = rw (refused-says refuse F G text between w q e);
-  }
+  -- a refusal that was asked about, where so many places are enough
+  pub round-refused : Strict refuse → (back : List ℕ) (q : Refusal) → r ≡ Refused q → (most : ℕ) → (length text ≤ limit → length (converted F G text) ≤ most)
+      → (b : Bool) → b ≡ dueThere (refusal q) (limited text (strictly refuse (damages (F .look) text) (0 ∷ []))) (length text) (length between) most
+      → Round refuse refuse′ F G text between back between′ back b
+  round-refused strict back q e most enough b h =
+      let g = refused-says refuse F G text between w q e in
+      record {
+        yes =
+            h
+            ∙ sym (ap (λ (l : List ℕ). dueThere l (limited text (strictly refuse (damages (F .look) text) (0 ∷ []))) (length text) (length between) most)
+            (refused-as refuse F G text between w q e))
+            ∙ due-there refuse strict F G (length between) text most enough g;
+        there = w .output;
+        returned = rw g;
+      }
 
   pub round-granted : Faithful F → Faithful G → Refuses refuse → (n : ℕ) → r ≡ Count n → (back back′ : List ℕ) (b : Bool)
       → Back refuse′ G F text (take n between′) back back′ b → Round refuse refuse′ F G text between back between′ back′ b
   round-granted f g refuses n e back back′ b h =
       let form : List ℕ = converted F G text in
       let says′ : List ℕ = convertSays refuse′ G F (length back) form in
-      let same : converted G F form ≡ text = there-and-back f g text (passed refuse F G text between w refuses n e .clean) in
+      let clean : damages (F .look) text ≡ [] = passed refuse F G text between w refuses n e .clean in
+      let same : converted G F form ≡ text = there-and-back f g text clean in
+      let due : Bool = dueBack says′ (length form) (length back) (length text) in
       let k : Back refuse′ G F text form back back′ b
       = subst (λ (l : List ℕ). Back refuse′ G F text l back back′ b) (count-wrote refuse F G text between w refuses n e) h in
       record {
         yes =
             k .answer
-            ∙ ap (λ (l : List ℕ). ifGranted says′ (equal text l) true) same
-            ∙ ap (λ (c : Bool). ifGranted says′ c true) (equal-same text)
-            ∙ either (eqb (getD says′ 0 0) 0);
+            ∙ ap (λ (l : List ℕ). ifGranted says′ (equal text l) due) same
+            ∙ ap (λ (c : Bool). ifGranted says′ c due) (equal-same text)
+            ∙ due-back f g refuse′ (length back) text clean;
         there = w .output;
         returned =
             k .returned
             ∙ ap (λ (l : List ℕ). outputOf says′ l back) same
             ∙ sym (ap (λ (l : List ℕ). ifGranted l (outputOf says′ text back) back) (count-says refuse F G text between w refuses n e));
       }
-    where
-      either : (b : Bool) → cond b true true ≡ true
-      either true = refl
-      either false = refl

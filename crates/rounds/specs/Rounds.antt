@@ -11,10 +11,12 @@ use Rattle.terms.specs.Form.{Form, converted}
 use Rattle.terms.specs.Told.{ifGranted}
 use Rattle.terms.specs.Writing.{outputOf, convertSays}
 use Rattle.comparing.specs.Equal.{equal}
+use Rattle.rounds.specs.Due.{dueBack}
 
--- the way back, from form G to form F: yes where it is refused, else whether it gives the text
+-- the way back, from form G to form F: whether it gives the text, or where it is refused whether that was due
 pub record Back (refuse : Entry Kind → List ℕ) (G F : Form) (text between back back′ : List ℕ) (r : Bool) : Type 0 where
-  pub answer : r ≡ ifGranted (convertSays refuse G F (length back) between) (equal text (converted G F between)) true
+  pub answer : r ≡ ifGranted (convertSays refuse G F (length back) between) (equal text (converted G F between))
+      (dueBack (convertSays refuse G F (length back) between) (length between) (length back) (length text))
   pub returned : back′ ≡ outputOf (convertSays refuse G F (length back) between) (converted G F between) back
 
 -- THERE AND BACK, from form F to form G: the answer is yes; the form between is written where the first step is granted, and

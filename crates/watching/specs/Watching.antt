@@ -16,7 +16,7 @@ use Rattle.watch.specs.declared.Watched.{Watched}
 abbrev pub watches : Watched → List ℕ → Watched
 watches = foldl (λ (w : Watched) (b : ℕ). watching (w .state) b)
 
--- THE WATCH COUNTS WHAT ONE FEED COUNTS: the answer is yes, and the lent output and list hold what the feed leaves there
+-- THE WATCH COMES TO WHAT ONE FEED COMES TO: the answer is yes, and the lent output and list hold what the feed leaves there
 pub record Watches (room : ℕ) (text out list out′ list′ : List ℕ) (r : Bool) : Type 0 where
   pub yes : r ≡ true
   pub output : out′ ≡ outputOf (feedSays (freshOf room) text out list) (fed (freshOf room) text list .kept .out) out

@@ -1,9 +1,7 @@
 -- `building::is_granted` meets its contract: no refusal's number is 0.
 -- Assumes nothing.
-use mathlib.Core.Path.{sym, ap, _∙_}
 use borrow.Author.Needs.{needs}
 use Rattle.terms.proofs.Telling.{no-zero}
-use Rattle.building.specs.Builds.{isGranted}
 use Rattle.building.proofs.is_granted.Statement.{statement}
 use Rattle.building.proofs.is_granted.Tie as tie
 
@@ -14,10 +12,10 @@ enum-told-2 : tie.Need-enum-told-2
 enum-told-2 c = search needs
 
 returns : tie.Need-returns
-returns c = sym (ap isGranted (c .enum-told .given .1))
+returns c = rw (c .enum-told .given .1)
 
 returns-2 : tie.Need-returns-2
-returns-2 c = sym (ap isGranted (c .enum-told2 .given .1) ∙ no-zero (c .enum-told2 .given .0 .0))
+returns-2 c = rw (c .enum-told2 .given .1, no-zero (c .enum-told2 .given .0 .0))
 
 pub is-granted-spec : {M : Type 1} → statement M
 is-granted-spec = tie.close (tie.spec enum-told enum-told-2 returns returns-2)

@@ -1,6 +1,5 @@
 -- `building::may_refuse` meets its contract: its two tests.
 -- Assumes nothing.
-use native.Mathlib.Numerals.{add-one}
 use borrow.Author.Tests.{lt-ltb, le-ltb}
 use borrow.Author.Needs.{needs}
 use Rattle.terms.specs.Limits.{limit}
@@ -10,14 +9,11 @@ use Rattle.building.proofs.may_refuse.Tie as tie
 returns : tie.Need-returns
 returns c = let a = c .before .args in rw (lt-ltb limit (a .long) (c .if1 .taken))
 
-add-result : tie.Need-add-result
-add-result c = search needs
-
-mul-result : tie.Need-mul-result
-mul-result c = search needs
+needed-requires : tie.Need-needed-requires
+needed-requires c κs = search needs
 
 returns-2 : tie.Need-returns-2
-returns-2 c = let a = c .before .args in rw (le-ltb limit (a .long) (c .if1 .left), add-one)
+returns-2 c = let e = c .before in rw (c .needed .ensures, le-ltb limit (e .before .args .long) (e .if1 .left))
 
 pub may-refuse-spec : {M : Type 1} → statement M
-may-refuse-spec = tie.close (tie.spec returns add-result mul-result returns-2)
+may-refuse-spec = tie.close (tie.spec returns needed-requires returns-2)

@@ -1,8 +1,7 @@
 -- `feeds::end` meets its contract: what finish told, left in its part of the output and in the list.
 -- Assumes nothing.
-use borrow.Author.Tests.{not-true, not-false}
 use native.Mathlib.Omega.{arith}
-use Rattle.feeds.proofs.Piecing.{end-stopped, end-granted, end-refused, end-fits}
+use Rattle.feeds.proofs.Piecing.{end-before, end-granted, end-refused, end-fits}
 use borrow.Author.Needs.{needs}
 use Rattle.feeds.proofs.end.Statement.{statement}
 use Rattle.feeds.proofs.end.Tie as tie
@@ -12,8 +11,8 @@ nothing-requires c κs = search needs
 
 returns : tie.Need-returns
 returns c =
-    let a = c .before .before .before .before .before .args in
-    end-stopped (a .gone) (a .out .now) (a .list .now) (not-true _ (c .before .if1 .taken)) (c .nothing .result) (c .nothing .ensures)
+    let a = c .before .before .before .before .before .before .args in
+    end-before (a .text .now) (a .gone) (a .out .now) (a .list .now) (c .before .if1 .taken) (c .nothing .result) (c .nothing .ensures)
 
 sub-finish : tie.Need-sub-finish
 sub-finish c = search needs
@@ -30,17 +29,18 @@ finish-requires c κs = search needs
 enum-known-answer : tie.Need-enum-known-answer
 enum-known-answer c = search needs
 
-add-t19 : tie.Need-add-t19
-add-t19 c =
+add-t20 : tie.Need-add-t20
+add-t20 c =
     let f = c .before .before .before .before .before .before .before in
     let e = f .before .before .before in
-    let z = e .before .before .before .before in
+    let z = e .before .before .before .before .before in
+    let a = z .args in
     let told = c .before .answer .given in
     record {
       fits = omega (
         arith,
         z .pre,
-        end-fits (z .args .gone) (z .args .out .now) (z .args .list .now) (not-false _ (e .if1 .left)) (f .finish .ensures)
+        end-fits (a .text .now) (a .gone) (a .out .now) (a .list .now) (e .if1 .left) (f .finish .ensures)
             (told .0 .0) (told .0 .1 .0) (told .0 .1 .1 .0) (told .0 .1 .1 .1 .0) (told .1) (z .pre),
       );
     }
@@ -61,9 +61,9 @@ returns-2 : tie.Need-returns-2
 returns-2 c =
     let f = c .before .before .before .before .before .before .before in
     let e = f .before .before .before in
-    let a = e .before .before .before .before .args in
+    let a = e .before .before .before .before .before .args in
     let told = c .before .answer .given in
-    end-granted (a .gone) (a .out .now) (a .list .now) (not-false _ (e .if1 .left)) (f .finish .ensures)
+    end-granted (a .text .now) (a .gone) (a .out .now) (a .list .now) (e .if1 .left) (f .finish .ensures)
     (told .0 .0) (told .0 .1 .0) (told .0 .1 .1 .0) (told .0 .1 .1 .1 .0) (told .1)
 
 same-length-3 : tie.Need-same-length-3
@@ -77,8 +77,8 @@ returns-3 c =
     let t = c .before in
     let f = t .before .before .before .before .before .before in
     let e = f .before .before .before in
-    let a = e .before .before .before .before .args in
-    end-refused (a .gone) (a .out .now) (a .list .now) (not-false _ (e .if1 .left)) (f .finish .ensures)
+    let a = e .before .before .before .before .before .args in
+    end-refused (a .text .now) (a .gone) (a .out .now) (a .list .now) (e .if1 .left) (f .finish .ensures)
     (t .enum-told .given .0 .0) (t .enum-told .given .1) (c .nothing2 .result) (c .nothing2 .ensures)
 
 pub end-spec : {M : Type 1} → statement M
@@ -92,7 +92,7 @@ end-spec =
     part-finish-end
     finish-requires
     enum-known-answer
-    add-t19
+    add-t20
     enum-told
     nothing-requires-2
     same-length

@@ -1,7 +1,6 @@
--- `lookups::agree` meets its contract: a true index answers as plain lookup.
+-- `lookups::agree` meets its contract: two that tell the same are the same.
 -- Assumes nothing.
 use borrow.Author.Needs.{needs}
-use Rattle.index.proofs.Truth.{as-plain}
 use Rattle.lookups.proofs.LookingUp.{agree-told}
 use Rattle.lookups.proofs.agree.Statement.{statement}
 use Rattle.lookups.proofs.agree.Tie as tie
@@ -49,7 +48,7 @@ returns c =
     let s₁ = s₂ .before .before .before in
     let z = s₁ .before .before .before .before .before in
     let a = z .args in
-    let plain = as-plain (a .row .now) (a .text .now) (z .pre) in
+    let plain = z .pre in
     rw (
       agree-told (s₁ .same .ensures) (s₁ .before .before .at-byte .ensures) (plain .bytes (a .byte .0)) (s₁ .before .at-byte2 .ensures),
       agree-told (s₂ .same2 .ensures) (s₂ .before .before .at-unit .ensures) (plain .units (a .unit .0)) (s₂ .before .at-unit2 .ensures),

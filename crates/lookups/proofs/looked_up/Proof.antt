@@ -1,9 +1,10 @@
--- `lookups::looked_up` meets its contract: the build leaves the index of the text, or its refusal was right.
+-- `lookups::looked_up` meets its contract: the third demand where the index was built, or the refusal was right.
 -- Assumes nothing.
 use mathlib.Core.Path.{_∙_}
 use borrow.Author.Tests.{not-true, not-false}
 use borrow.Author.Needs.{needs}
-use Rattle.building.proofs.Builds.{built-whole, built-refused}
+use Rattle.build.proofs.BuiltAsPlain.{built-as-plain}
+use Rattle.building.proofs.Taking.{built-finished, built-refused}
 use Rattle.lookups.proofs.looked_up.Statement.{statement}
 use Rattle.lookups.proofs.looked_up.Tie as tie
 
@@ -28,7 +29,8 @@ agree-requires c κs =
     let e = c .before in
     let b = e .before .before .before in
     let a = b .before .before .before .before .before .args in
-    built-whole (a .text .now) (a .cuts .now) (a .row .now) (b .build-in-pieces .ensures) (not-false _ (e .if1 .left)) .index
+    let f = built-finished (a .text .now) (a .cuts .now) (a .row .now) (b .build-in-pieces .ensures) (not-false _ (e .if1 .left)) in
+    rw (← f .joined) (built-as-plain (a .row .now) (f .pieces) _ (f .call) (f .finishes) (f .grants))
 
 same-length-2 : tie.Need-same-length-2
 same-length-2 c = search needs

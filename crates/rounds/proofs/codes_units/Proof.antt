@@ -1,4 +1,4 @@
--- `rounds::codes_units` meets its contract: both steps, or yes where the first is refused.
+-- `rounds::codes_units` meets its contract: both steps, or whether the refusal of the first was due.
 -- Assumes nothing.
 use Prim.Native.Nat.{_≤_}
 use mathlib.Core.Path.{refl, sym}
@@ -10,6 +10,9 @@ use Rattle.utf16.specs.Scalar.{utf16}
 use Rattle.utf16.proofs.Scalars.{utf16-faithful}
 use Rattle.points.specs.Points.{codes, noScalar}
 use Rattle.points.proofs.Codes.{codes-faithful}
+use Rattle.encoding.specs.Room.{mostOf}
+use Rattle.encoding.specs.declared.Target.the-variants.{Units, Codes}
+use Rattle.encoding.proofs.Enough.{enough}
 use Rattle.rounds.proofs.Returning.{count-fits, round-granted, round-refused}
 use borrow.Author.Needs.{needs}
 use Rattle.rounds.proofs.codes_units.Statement.{statement}
@@ -36,8 +39,11 @@ slice-aggregate-units-as-codes c = sym (length-take-le _ _ (within (c .before)))
 units-as-codes-requires : tie.Need-units-as-codes-requires
 units-as-codes-requires c κs = search needs
 
-enum-told : tie.Need-enum-told
-enum-told c = search needs
+enum-known-why : tie.Need-enum-known-why
+enum-known-why c = search needs
+
+due-codes-requires : tie.Need-due-codes-requires
+due-codes-requires c κs = search needs
 
 same-length : tie.Need-same-length
 same-length c = search needs
@@ -59,9 +65,11 @@ same-length-3 c = search needs
 
 returns-2 : tie.Need-returns-2
 returns-2 c =
-    let t = c .before .before .before .before in
+    let w = c .before .before in
+    let t = w .before .before .before .before in
     let a = t .before .before .before .before .before .args in
-    round-refused noScalar damaged codes utf16 (a .text .now) (a .between .now) (t .to-units .ensures) (a .back .now) (c .enum-told .given .0 .0) (c .enum-told .given .1)
+    round-refused noScalar damaged codes utf16 (a .text .now) (a .between .now) (t .to-units .ensures) (λ e. refl) (a .back .now) (w .why .given .0 .0) (w .why .given .1)
+    (mostOf Codes Units (length (a .text .now))) (enough Codes Units (a .text .now)) (c .due-codes .result) (c .due-codes .ensures)
 
 pub codes-units-spec : {M : Type 1} → statement M
 codes-units-spec =
@@ -72,7 +80,8 @@ codes-units-spec =
     slice-reshare-prefix-units-as-codes
     slice-aggregate-units-as-codes
     units-as-codes-requires
-    enum-told
+    enum-known-why
+    due-codes-requires
     same-length
     same-length-2
     returns

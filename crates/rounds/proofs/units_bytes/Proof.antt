@@ -1,4 +1,4 @@
--- `rounds::units_bytes` meets its contract: both steps, or yes where the first is refused.
+-- `rounds::units_bytes` meets its contract: both steps, or whether the refusal of the first was due.
 -- Assumes nothing.
 use Prim.Native.Nat.{_≤_}
 use mathlib.Core.Path.{refl, sym}
@@ -10,6 +10,9 @@ use Rattle.utf8.specs.Scalar.{utf8}
 use Rattle.utf8.proofs.Scalars.{utf8-faithful}
 use Rattle.utf16.specs.Scalar.{utf16}
 use Rattle.utf16.proofs.Scalars.{utf16-faithful}
+use Rattle.encoding.specs.Room.{mostOf}
+use Rattle.encoding.specs.declared.Target.the-variants.{Bytes, Units}
+use Rattle.encoding.proofs.Enough.{enough}
 use Rattle.rounds.proofs.Returning.{count-fits, round-granted, round-refused}
 use borrow.Author.Needs.{needs}
 use Rattle.rounds.proofs.units_bytes.Statement.{statement}
@@ -36,8 +39,11 @@ slice-aggregate-bytes-as-units c = sym (length-take-le _ _ (within (c .before)))
 bytes-as-units-requires : tie.Need-bytes-as-units-requires
 bytes-as-units-requires c κs = search needs
 
-enum-told : tie.Need-enum-told
-enum-told c = search needs
+enum-known-why : tie.Need-enum-known-why
+enum-known-why c = search needs
+
+due-units-requires : tie.Need-due-units-requires
+due-units-requires c κs = search needs
 
 same-length : tie.Need-same-length
 same-length c = search needs
@@ -59,9 +65,11 @@ same-length-3 c = search needs
 
 returns-2 : tie.Need-returns-2
 returns-2 c =
-    let t = c .before .before .before .before in
+    let w = c .before .before in
+    let t = w .before .before .before .before in
     let a = t .before .before .before .before .before .args in
-    round-refused damaged damaged utf16 utf8 (a .text .now) (a .between .now) (t .to-bytes .ensures) (a .back .now) (c .enum-told .given .0 .0) (c .enum-told .given .1)
+    round-refused damaged damaged utf16 utf8 (a .text .now) (a .between .now) (t .to-bytes .ensures) (λ e. refl) (a .back .now) (w .why .given .0 .0) (w .why .given .1)
+    (mostOf Units Bytes (length (a .text .now))) (enough Units Bytes (a .text .now)) (c .due-units .result) (c .due-units .ensures)
 
 pub units-bytes-spec : {M : Type 1} → statement M
 units-bytes-spec =
@@ -72,7 +80,8 @@ units-bytes-spec =
     slice-reshare-prefix-bytes-as-units
     slice-aggregate-bytes-as-units
     bytes-as-units-requires
-    enum-told
+    enum-known-why
+    due-units-requires
     same-length
     same-length-2
     returns

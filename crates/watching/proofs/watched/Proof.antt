@@ -1,10 +1,11 @@
--- `watching::watched` meets its contract: a granted feed counts what was watched.
+-- `watching::watched` meets its contract: a granted feed came to what was watched, and a refused one was due.
 -- Assumes nothing.
-use mathlib.Core.Path.{refl, _∙_}
-use borrow.Author.Tests.{eq-eqb}
+use mathlib.Core.Path.{sym, ap, _∙_}
 use Rattle.terms.specs.Limits.{freshOf}
+use Rattle.terms.specs.Told.{written}
 use Rattle.repair.specs.Feeding.{Feeds}
-use Rattle.watching.proofs.Counting.{Counts, counts}
+use Rattle.watching.proofs.Counting.{Same, same-as-fed}
+use Rattle.watching.proofs.Comparing.{same-if, refused-due}
 use borrow.Author.Needs.{needs}
 use Rattle.watching.proofs.watched.Statement.{statement}
 use Rattle.watching.proofs.watched.Tie as tie
@@ -20,13 +21,13 @@ did c = rw (c .before .before .before .fresh .ensures) at (c .feed .ensures)
 
 -- where it was granted
 same : (c : tie.After-enum-told)
-    → Counts (c .before .before .before .before .before .before .before .before .before .before .watch-all .result)
+    → Same (c .before .before .before .before .before .before .before .before .before .before .watch-all .result)
     (c .before .before .before .before .before .before .feed .result)
 same c =
     let f = c .before .before .before .before .before .before in
     let w = f .before .before .before .before in
     let a = w .before .before .before .before .args in
-    counts (a .room) (a .text .now) (a .out .now) (a .list .now) (w .watch-all .result) (f .feed .result) (w .watch-all .ensures)
+    same-as-fed (a .room) (a .text .now) (a .out .now) (a .list .now) (w .watch-all .result) (f .feed .result) (w .watch-all .ensures)
     (did f) (c .enum-told .given .0 .0) (c .enum-told .given .1)
 
 watch-all-requires : tie.Need-watch-all-requires
@@ -55,8 +56,14 @@ returns c =
     let t = c .before .before .before in
     absurd (c .if1 .taken (c .before .before .wide .ensures ∙ same t .reply))
 
-enum-told-2 : tie.Need-enum-told-2
-enum-told-2 c = search needs
+same-state-requires : tie.Need-same-state-requires
+same-state-requires c κs = search needs
+
+enum-known-answer : tie.Need-enum-known-answer
+enum-known-answer c = search needs
+
+is-due-requires : tie.Need-is-due-requires
+is-due-requires c κs = search needs
 
 same-length-3 : tie.Need-same-length-3
 same-length-3 c = search needs
@@ -66,9 +73,15 @@ same-length-4 c = search needs
 
 returns-2 : tie.Need-returns-2
 returns-2 c =
-    let t = c .before .before .before .before .before in
+    let t = c .before .before .before .before in
     let f = t .before .before .before .before .before .before in
-    record { yes = eq-eqb _ _ (same t .count); output = did f .output; entries = did f .entries }
+    let q = f .feed .result in
+    let w = f .before .before .before .before .watch-all .result in
+    record {
+      yes = c .same-state .ensures ∙ same-if (w .state) (q .state) (same t .state);
+      output = did f .output;
+      entries = did f .entries;
+    }
 
 same-length-5 : tie.Need-same-length-5
 same-length-5 c = search needs
@@ -78,8 +91,16 @@ same-length-6 c = search needs
 
 returns-3 : tie.Need-returns-3
 returns-3 c =
-    let f = c .before .before .before .before .before .before in
-    record { yes = refl; output = did f .output; entries = did f .entries }
+    let f = c .before .before .before .before .before .before .before .before in
+    let a = f .before .before .before .before .before .before .before .before .args in
+    let why = c .before .before .answer .given in
+    record {
+      yes =
+          rw (f .feed .kept .1 .1 .0, f .feed .kept .1 .1 .1 .0) at (c .is-due .ensures)
+          ∙ refused-due (a .room) (a .text .now) (a .out .now) (a .list .now) (why .0 .0) (sym (ap written (why .1)) ∙ did f .answer);
+      output = did f .output;
+      entries = did f .entries;
+    }
 
 pub watched-spec : {M : Type 1} → statement M
 watched-spec =
@@ -93,7 +114,9 @@ watched-spec =
     same-length
     same-length-2
     returns
-    enum-told-2
+    same-state-requires
+    enum-known-answer
+    is-due-requires
     same-length-3
     same-length-4
     returns-2

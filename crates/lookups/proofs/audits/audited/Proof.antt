@@ -3,7 +3,8 @@
 use mathlib.Core.Path.{_∙_}
 use borrow.Author.Tests.{not-true, not-false}
 use borrow.Author.Needs.{needs}
-use Rattle.building.proofs.Builds.{built-whole, built-refused, whole-audit}
+use Rattle.building.proofs.Taking.{built-finished, built-refused}
+use Rattle.lookups.proofs.Auditing.{finished-audit}
 use Rattle.lookups.proofs.audits.audited.Statement.{statement}
 use Rattle.lookups.proofs.audits.audited.Tie as tie
 
@@ -35,7 +36,7 @@ returns-2 c =
     let b = e .before .before .before in
     let a = b .before .before .before .before .before .args in
     let d = b .build-in-pieces .ensures in
-    (c .audit .ensures ∙ whole-audit (built-whole (a .text .now) (a .cuts .now) (a .row .now) d (not-false _ (e .if1 .left))), d .row-is)
+    (c .audit .ensures ∙ finished-audit (built-finished (a .text .now) (a .cuts .now) (a .row .now) d (not-false _ (e .if1 .left))), d .row-is)
 
 pub audited-spec : {M : Type 1} → statement M
 audited-spec =
