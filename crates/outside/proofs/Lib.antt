@@ -1,1 +1,2 @@
 pub mod Stating
+pub mod Once

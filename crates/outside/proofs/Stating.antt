@@ -13,21 +13,23 @@ use Rattle.repair.specs.declared.Fed.{Fed}
 use Rattle.repair.specs.declared.Finished.{Finished}
 use Rattle.watch.specs.Watching.{watching}
 use Rattle.watch.specs.declared.Watched.{Watched}
-use Rattle.telling.specs.Telling.{saying, Says, put, notCalled, Tells}
+use Rattle.telling.specs.Telling.{saying, saidOf, put, notCalled, Tells}
 use Rattle.states.specs.States.{kept, decoderNumbers}
 use Rattle.telling.specs.declared.Said.{Said}
 use Rattle.states.proofs.Testing.{kept-long}
+use Rattle.telling.proofs.Saying.{said-written}
 use Rattle.telling.proofs.Wrapping.{as-said}
+use Rattle.answers.proofs.Saying.{said-begun, said-total}
 use Rattle.outside.specs.Keeping.{Starts, Feeds, Finishes, Watches}
 
 pub unstarted : {called : Bool} {room : ℕ} {state says : List ℕ} → called ≡ false → Starts called room state state says says notCalled
 unstarted e = rw e (record { tells = record { reply = refl; told = refl }; next = refl })
 
 pub started : {called : Bool} {room : ℕ} {state state′ says says′ : List ℕ} {r : ℕ} {f : Started} {s : Said} → called ≡ true
-    → call.Starts room f → 9 ≤ length state → state′ ≡ kept 9 (decoderNumbers (f .state)) state → Says (call.begun (f .answer)) s
+    → call.Starts room f → 9 ≤ length state → state′ ≡ kept 9 (decoderNumbers (f .state)) state → s ≡ saidOf (call.begun (f .answer))
     → Tells true (saying s) says says′ r → Starts called room state state′ says says′ r
 started {state = state} {f = v} e f long k s t =
-    rw e (record { tells = as-said (s .numbers ∙ f .answer) t; next = k ∙ kept-long 9 state (decoderNumbers (v .state)) long ∙ ap (λ (d : Decoder). put (decoderNumbers d) state) (f .state) })
+    rw e (record { tells = as-said (said-begun (v .answer) s ∙ f .answer) t; next = k ∙ kept-long 9 state (decoderNumbers (v .state)) long ∙ ap (λ (d : Decoder). put (decoderNumbers d) state) (f .state) })
 
 pub unfed : {called : Bool} {d : Decoder} {piece out list state says : List ℕ} → called ≡ false
     → Feeds called d piece out list out list state state says says notCalled
@@ -35,12 +37,12 @@ unfed e = rw e (record { tells = record { reply = refl; told = refl }; next = re
 
 pub was-fed : {called : Bool} {d q : Decoder} {piece out list out′ list′ state state′ says says′ : List ℕ} {r : ℕ} {f : Fed} {s : Said}
     → called ≡ true → q ≡ d → call.Feeds q piece out list out′ list′ f → 9 ≤ length state → state′ ≡ kept 9 (decoderNumbers (f .state)) state
-    → Says (written (f .answer)) s → Tells true (saying s) says says′ r
+    → s ≡ saidOf (written (f .answer)) → Tells true (saying s) says says′ r
     → Feeds called d piece out list out′ list′ state state′ says says′ r
 was-fed {state = state} {f = v} e q f long k s t =
     rw (e, ← q)
     (record {
-      tells = as-said (s .numbers ∙ f .answer) t;
+      tells = as-said (said-written (v .answer) s ∙ f .answer) t;
       next = k ∙ kept-long 9 state (decoderNumbers (v .state)) long ∙ ap (λ (d : Decoder). put (decoderNumbers d) state) (f .state);
       output = f .output;
       entries = f .entries;
@@ -52,12 +54,12 @@ unfinished e = rw e (record { tells = record { reply = refl; told = refl }; next
 
 pub was-finished : {called : Bool} {d q : Decoder} {out list out′ list′ state state′ says says′ : List ℕ} {r : ℕ} {f : Finished} {s : Said}
     → called ≡ true → q ≡ d → call.Finishes q out list out′ list′ f → 9 ≤ length state → state′ ≡ kept 9 (decoderNumbers (f .state)) state
-    → Says (call.total (f .answer)) s → Tells true (saying s) says says′ r
+    → s ≡ saidOf (call.total (f .answer)) → Tells true (saying s) says says′ r
     → Finishes called d out list out′ list′ state state′ says says′ r
 was-finished {state = state} {f = v} e q f long k s t =
     rw (e, ← q)
     (record {
-      tells = as-said (s .numbers ∙ f .answer) t;
+      tells = as-said (said-total (v .answer) s ∙ f .answer) t;
       next = k ∙ kept-long 9 state (decoderNumbers (v .state)) long ∙ ap (λ (d : Decoder). put (decoderNumbers d) state) (f .state);
       output = f .output;
       entries = f .entries;

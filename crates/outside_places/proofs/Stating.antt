@@ -9,11 +9,12 @@ use Rattle.builder.specs.State as builder
 use Rattle.builder.specs.declared.Builder.{Builder}
 use Rattle.builder.specs.declared.Built.{Built}
 use Rattle.build.specs.Building as build
-use Rattle.telling.specs.Telling.{saying, Says, put, notCalled, Tells}
+use Rattle.telling.specs.Telling.{saying, saidOf, put, notCalled, Tells}
 use Rattle.states.specs.States.{kept, builderNumbers}
 use Rattle.telling.specs.declared.Said.{Said}
 use Rattle.states.proofs.Testing.{kept-long}
 use Rattle.telling.proofs.Wrapping.{as-said}
+use Rattle.answers.proofs.Saying.{said-building}
 use Rattle.outside_places.specs.Keeping.{Freshens, Builds, Ends}
 
 pub unfreshened : {called : Bool} {state : List ℕ} → called ≡ false → Freshens called state state notCalled
@@ -30,12 +31,12 @@ unbuilt e = rw e (record { tells = record { reply = refl; told = refl }; next = 
 
 pub was-built : {called : Bool} {b q : Builder} {piece row row′ state state′ says says′ : List ℕ} {r : ℕ} {f : Built} {s : Said}
     → called ≡ true → q ≡ b → build.Feeds q piece row row′ f → 8 ≤ length state → state′ ≡ kept 8 (builderNumbers (f .state)) state
-    → Says (builder.building (f .answer)) s → Tells true (saying s) says says′ r
+    → s ≡ saidOf (builder.building (f .answer)) → Tells true (saying s) says says′ r
     → Builds called b piece row row′ state state′ says says′ r
 was-built {state = state} {f = v} e q f long k s t =
     rw (e, ← q)
     (record {
-      tells = as-said (s .numbers ∙ f .answer) t;
+      tells = as-said (said-building (v .answer) s ∙ f .answer) t;
       next = k ∙ kept-long 8 state (builderNumbers (v .state)) long ∙ ap (λ (b : Builder). put (builderNumbers b) state) (f .state);
       checkpoints = f .checkpoints;
     })
@@ -46,12 +47,12 @@ unended e = rw e (record { tells = record { reply = refl; told = refl }; next = 
 
 pub was-ended : {called : Bool} {b q : Builder} {row row′ state state′ says says′ : List ℕ} {r : ℕ} {f : Built} {s : Said}
     → called ≡ true → q ≡ b → build.Finishes q row row′ f → 8 ≤ length state → state′ ≡ kept 8 (builderNumbers (f .state)) state
-    → Says (builder.building (f .answer)) s → Tells true (saying s) says says′ r
+    → s ≡ saidOf (builder.building (f .answer)) → Tells true (saying s) says says′ r
     → Ends called b row row′ state state′ says says′ r
 was-ended {state = state} {f = v} e q f long k s t =
     rw (e, ← q)
     (record {
-      tells = as-said (s .numbers ∙ f .answer) t;
+      tells = as-said (said-building (v .answer) s ∙ f .answer) t;
       next = k ∙ kept-long 8 state (builderNumbers (v .state)) long ∙ ap (λ (b : Builder). put (builderNumbers b) state) (f .state);
       checkpoints = f .checkpoints;
     })

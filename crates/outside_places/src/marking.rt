@@ -1,7 +1,9 @@
-// The builder of an index.
+// The builder of an index, and how many numbers an index needs.
 use builder::Builder;
+ghost use mathlib.Core.Path.{_≡_};
 ghost use lib.ListN.{length};
 ghost use lib.Dec.{leb};
+ghost use Rattle.checkpoints.specs.Checkpoints.{needed};
 ghost use Rattle.states.specs.States.{ready, builderOf};
 ghost use Rattle.outside_places.specs.Keeping.{Freshens, Builds, Ends};
 
@@ -61,4 +63,11 @@ pub extern "C" fn outside_build_finish(
     let next = built.state;
     states::keep_builder(next, state);
     telling::tell(answers::say_building(answer), says)
+}
+
+#[no_mangle]
+pub extern "C" fn outside_index_needed(long: usize) -> usize
+    ensures { λ r. ⌜ r ≡ needed long ⌝ }
+{
+    checkpoints::needed(long)
 }

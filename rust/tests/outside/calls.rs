@@ -57,6 +57,10 @@ extern "C" {
     pub fn outside_points_to_bytes(text: *const u32, n: usize, out: *mut u8, k: usize, says: *mut usize, m: usize) -> usize;
     pub fn outside_points_to_units(text: *const u32, n: usize, out: *mut u16, k: usize, says: *mut usize, m: usize) -> usize;
 
+    fn outside_most(from: usize, to: usize, n: usize) -> usize;
+    fn outside_repair_most(n: usize) -> usize;
+    fn outside_index_needed(long: usize) -> usize;
+
     pub fn outside_cut_bytes(text: *const u8, n: usize, most: usize) -> usize;
     pub fn outside_cut_units(text: *const u8, n: usize, most: usize) -> usize;
     pub fn outside_cut_points(text: *const u8, n: usize, most: usize) -> usize;
@@ -190,6 +194,19 @@ pub fn goes(call: Goes, text: &[u8], from: Place, kind: usize, offset: usize) ->
             m,
         )
     })
+}
+
+/// The most places that so many elements of one form can need in another: 0 bytes, 1 units, 2 code points.
+pub fn most(from: usize, to: usize, n: usize) -> usize {
+    unsafe { outside_most(from, to, n) }
+}
+
+pub fn repair_most(n: usize) -> usize {
+    unsafe { outside_repair_most(n) }
+}
+
+pub fn index_needed(long: usize) -> usize {
+    unsafe { outside_index_needed(long) }
 }
 
 pub fn cuts(call: Cuts, text: &[u8], most: usize) -> usize {

@@ -11,7 +11,9 @@ mod limits;
 mod lookups;
 mod pending;
 mod pieces;
+mod room;
 mod states;
+mod watch;
 
 use common::Random;
 use std::panic::{catch_unwind, AssertUnwindSafe};
@@ -38,7 +40,7 @@ const USUAL: usize = 1_000_000;
 type Subject = (&'static str, fn(&mut Run));
 
 /// The subjects, the longest first, so that the last to end are short.
-const SUBJECTS: [Subject; 15] = [
+const SUBJECTS: [Subject; 17] = [
     ("limits of lookups and the builder", limits::lookups),
     ("limits of conversions", limits::conversions),
     ("limits of pieces", limits::pieces),
@@ -50,10 +52,12 @@ const SUBJECTS: [Subject; 15] = [
     ("block edges", edges::all),
     ("states of a decoder", states::decoders),
     ("states of a builder", states::builders),
+    ("the watch over a lent state", watch::all),
     ("conversions of random texts", conversions::random),
     ("conversions of short texts", conversions::short),
     ("cutting", cutting::all),
     ("pending bytes", pending::all),
+    ("the most places", room::all),
 ];
 
 /// Runs a subject; says whether it passed. The seed and the number of the case are enough to repeat a failure.

@@ -24,7 +24,7 @@ fn off(run: &mut Run, numbers: &mut [usize]) {
 }
 
 /// A sound state, then up to three numbers off; or numbers all small; or near the limit with sums that hold.
-fn decoder(run: &mut Run) -> Decoder {
+pub fn decoder(run: &mut Run) -> Decoder {
     let length = run.random.below(40);
     let text = run.random.mixture(length);
     let room = run.random.pick(&[0, 1, 2, 31, 4_096]);

@@ -2,6 +2,7 @@
 -- Assumes nothing.
 use mathlib.Core.Path.{ap, _∙_}
 use Rattle.answers.specs.Answers.{three}
+use Rattle.telling.specs.Telling.{saying}
 use Rattle.telling.proofs.Wrapping.{as-said}
 use borrow.Author.Needs.{needs}
 use Rattle.outside.proofs.holding.outside_pending_hold.Statement.{statement}
@@ -20,7 +21,7 @@ same-length : tie.Need-same-length
 same-length c = search needs
 
 returns : tie.Need-returns
-returns c = as-said (c .before .before .before .before .say-held .ensures .numbers ∙ ap three (c .before .before .before .before .before .hold .ensures)) (c .before .before .tell .ensures)
+returns c = as-said (ap saying (c .before .before .before .before .say-held .ensures) ∙ ap three (c .before .before .before .before .before .hold .ensures)) (c .before .before .tell .ensures)
 
 pub outside-pending-hold-spec : {M : Type 1} → statement M
 outside-pending-hold-spec =

@@ -8,6 +8,7 @@ use mathlib.Core.List.{List}
 use Rattle.pending.specs.Tail.{seamOf}
 use Rattle.states.specs.States.{isState}
 use Rattle.answers.specs.Answers.{seamNumbers}
+use Rattle.telling.specs.Telling.{saying}
 use Rattle.telling.proofs.Wrapping.{as-said, untold, also}
 use Rattle.states.proofs.Asking.{not-state}
 use borrow.Author.Needs.{needs}
@@ -45,7 +46,7 @@ returns-2 : tie.Need-returns-2
 returns-2 c =
     let a = c .before .before .before .before .before .before .before .before .before .before .before .before .args in
     let e = c .before .before .before .before .before .seam-of .ensures ∙ ap (λ (l : List ℕ). seamOf l (a .n) (a .piece .now)) (c .before .before .before .before .before .before .held-of .ensures) in
-    also (passed (c .before .before .before .before .before .before .before)) (as-said (c .before .before .before .before .say-seam .ensures .numbers ∙ ap seamNumbers e) (c .before .before .tell .ensures))
+    also (passed (c .before .before .before .before .before .before .before)) (as-said (ap saying (c .before .before .before .before .say-seam .ensures) ∙ ap seamNumbers e) (c .before .before .tell .ensures))
 
 pub outside-pending-seam-of-spec : {M : Type 1} → statement M
 outside-pending-seam-of-spec =

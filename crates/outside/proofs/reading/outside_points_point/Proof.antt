@@ -1,6 +1,7 @@
 -- The code point and its size are told.
 -- Assumes nothing.
-use mathlib.Core.Path.{_∙_}
+use mathlib.Core.Path.{ap, _∙_}
+use Rattle.telling.specs.Telling.{saying}
 use Rattle.telling.proofs.Wrapping.{as-said}
 use borrow.Author.Needs.{needs}
 use Rattle.outside.proofs.reading.outside_points_point.Statement.{statement}
@@ -19,7 +20,7 @@ same-length : tie.Need-same-length
 same-length c = search needs
 
 returns : tie.Need-returns
-returns c = as-said (c .before .before .before .before .say-point .ensures .numbers ∙ c .before .before .before .before .before .point .ensures) (c .before .before .tell .ensures)
+returns c = as-said (ap saying (c .before .before .before .before .say-point .ensures) ∙ c .before .before .before .before .before .point .ensures) (c .before .before .tell .ensures)
 
 pub outside-points-point-spec : {M : Type 1} → statement M
 outside-points-point-spec =

@@ -1,6 +1,7 @@
 -- What stands first is told.
 -- Assumes nothing.
 use mathlib.Core.Path.{_∙_}
+use Rattle.telling.proofs.Saying.{said-first}
 use Rattle.telling.proofs.Wrapping.{as-said}
 use borrow.Author.Needs.{needs}
 use Rattle.outside.proofs.reading.outside_utf8_segment.Statement.{statement}
@@ -19,7 +20,9 @@ same-length : tie.Need-same-length
 same-length c = search needs
 
 returns : tie.Need-returns
-returns c = as-said (c .before .before .before .before .say-first .ensures .numbers ∙ c .before .before .before .before .before .segment .ensures) (c .before .before .tell .ensures)
+returns c =
+    let k = c .before .before .before .before .before in
+    as-said (said-first (k .segment .result) (c .before .before .before .before .say-first .ensures) ∙ k .segment .ensures) (c .before .before .tell .ensures)
 
 pub outside-utf8-segment-spec : {M : Type 1} → statement M
 outside-utf8-segment-spec =
