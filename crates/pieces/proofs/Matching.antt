@@ -2,7 +2,7 @@
 -- Assumes nothing.
 use mathlib.Core.Path.{_≡_, refl, sym, ap, _∙_}
 use Prim.Native.Nat.{ℕ, _*_, min, _≤_}
-use mathlib.Core.Bool.{Bool, true, false, not}
+use mathlib.Core.Bool.{Bool, true, false, not, Bool·beq, true≢false}
 use mathlib.Core.List.{List}
 use lib.ListN.{length, take, drop, length-take}
 use lib.Seq.{take-at, length-sets}
@@ -54,9 +54,16 @@ module _ (room : ℕ) (row row′ text out out′ : List ℕ) (v w : Given) (r :
   same-stored =
       ap (λ (n : ℕ). take (entryWidth * min room n) (w .list)) same-count ∙ stored-is room row′ text out′ w s ∙ sym (stored-is room row text out v r)
 
--- ---- a refusal of the feeds is due: what was not granted had no room, in buffers that kept their lengths
-pub refused-due : (room : ℕ) {row row′ form form′ places places′ : ℕ} → row′ ≡ row → form′ ≡ form → places′ ≡ places
-    → (granted asked : Bool) → granted ≡ enough room row form places → asked ≡ enough room row′ form′ places′ → granted ≡ false → not asked ≡ true
-refused-due room {row} {row′} {form} {form′} {places} {places′} e f p granted asked g a refused =
+-- ---- a way is granted exactly where it has room, which is asked of buffers that kept their lengths
+pub as-asked : (room : ℕ) {row row′ form form′ places places′ : ℕ} → row′ ≡ row → form′ ≡ form → places′ ≡ places
+    → (granted asked : Bool) → granted ≡ enough room row form places → asked ≡ enough room row′ form′ places′ → granted ≡ asked
+as-asked room {row} {row′} {form} {form′} {places} {places′} e f p granted asked g a =
     let same : enough room row′ form′ places′ ≡ enough room row form places = rw (e, f, p) in
-    ap not (a ∙ same ∙ sym g ∙ refused)
+    g ∙ sym same ∙ sym a
+
+-- two tests that are the same do not differ
+pub no-other : (a b : Bool) → a ≡ b → not (Bool·beq a b) ≡ true → ⊥
+no-other true true e d = true≢false (sym d)
+no-other true false e d = true≢false e
+no-other false true e d = true≢false (sym e)
+no-other false false e d = true≢false (sym d)

@@ -73,7 +73,8 @@ fn same_texts(
     comparing::same_codes(parts_list, once_list)
 }
 
-// Both ways, into buffers of their own: is the same found, is it what the whole repair has written, and is a refusal due?
+// Both ways, into buffers of their own: is each granted exactly where it has room, and is the same found, and what the whole repair
+// has written?
 fn fed_alike(
     text: &[u8],
     cuts: &[usize],
@@ -98,11 +99,17 @@ fn fed_alike(
     if !b.refuses {
         return false;
     }
+    if a.granted != is_enough(room, once_list.len(), whole.len(), once.len()) {
+        return false;
+    }
+    if b.granted != is_enough(room, parts_list.len(), whole.len(), parts.len()) {
+        return false;
+    }
     if !a.granted {
-        return !is_enough(room, once_list.len(), whole.len(), once.len());
+        return true;
     }
     if !b.granted {
-        return !is_enough(room, parts_list.len(), whole.len(), parts.len());
+        return true;
     }
     if !same_totals(a, b) {
         return false;

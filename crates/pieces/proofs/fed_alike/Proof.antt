@@ -1,6 +1,6 @@
--- `pieces::fed_alike` meets its contract: what both ways have found is what the text says, and a refusal is due.
+-- `pieces::fed_alike` meets its contract: each way is granted exactly where it has room, and what both have found is what the text says.
 -- Assumes nothing.
-use mathlib.Core.Path.{_≡_, sym, ap, ap₂, _∙_}
+use mathlib.Core.Path.{_≡_, refl, sym, ap, ap₂, _∙_}
 use Prim.Native.Nat.{_≤_, _*_}
 use mathlib.Core.Bool.{true≢false}
 use mathlib.Core.List.{[], _∷_}
@@ -15,7 +15,7 @@ use Rattle.feeds.proofs.Joining.{Ran, through-ran, through-refuses}
 use Rattle.feeds.proofs.Granting.{granted-exactly}
 use Rattle.feeds.proofs.Cutting.{pieces-granted}
 use Rattle.pieces.specs.Pieces.{lent, bothFed}
-use Rattle.pieces.proofs.Matching.{stored-in, same-totals, stored-in-other, same-stored, refused-due}
+use Rattle.pieces.proofs.Matching.{stored-in, same-totals, stored-in-other, same-stored, as-asked, no-other}
 use borrow.Author.Needs.{needs}
 use Rattle.pieces.proofs.fed_alike.Statement.{statement}
 use Rattle.pieces.proofs.fed_alike.Tie as tie
@@ -45,8 +45,8 @@ first-feed c = c .before .before .before .before .before .before .before
 abbrev start : (c : tie.After-feed-pieces) → tie.Start
 start c = first-feed c .before .before .before .before .before .before .before .before .before .before
 
-abbrev calls : (c : tie.Else3) → tie.After-feed-pieces
-calls c = c .before .before .before .before .before .before .before .before .before .before
+abbrev calls : (c : tie.Else5) → tie.After-feed-pieces
+calls c = c .before .before .before .before .before .before .before .before .before .before .before .before .before .before .before .before
 
 -- what one feed has found, and the feeds of pieces
 abbrev one : (c : tie.After-feed-once) → Given
@@ -95,13 +95,12 @@ returns-2 c =
     let o = first-feed p in
     let z = start p in
     let a = z .args in
-    record {
-      yes = refused-due (a .room) (o .feed-once .kept .1 .1 .1 .0) (ap length (z .pre .0)) (o .feed-once .kept .1 .1 .0)
-          (o .feed-once .result .granted) (c .is-enough .result)
-          (granted-exactly (a .room) (a .once-list .now) (a .text .now) (a .once .now) (z .pre .1) [] (one o) (o .feed-once .ensures))
-          (c .is-enough .ensures) (not-true _ (c .before .if2 .taken));
-      buffers = buffers p;
-    }
+    let same : o .feed-once .result .granted ≡ c .before .before .is-enough .result
+    = as-asked (a .room) (o .feed-once .kept .1 .1 .1 .0) (ap length (z .pre .0)) (o .feed-once .kept .1 .1 .0)
+    (o .feed-once .result .granted) (c .before .before .is-enough .result)
+    (granted-exactly (a .room) (a .once-list .now) (a .text .now) (a .once .now) (z .pre .1) [] (one o) (o .feed-once .ensures))
+    (c .before .before .is-enough .ensures) in
+    absurd (no-other _ _ same (c .if2 .taken))
 
 is-enough-requires-2 : tie.Need-is-enough-requires-2
 is-enough-requires-2 c κs = search needs
@@ -120,37 +119,15 @@ same-length-12 c = search needs
 
 returns-3 : tie.Need-returns-3
 returns-3 c =
-    let p = c .before .before .before .before .before .before .before .before .before .before .before in
+    let p = c .before .before .before .before .before .before .before .before .before .before .before .before in
     let z = start p in
     let a = z .args in
-    record {
-      yes = refused-due (a .room) (p .feed-pieces .kept .1 .1 .1 .1 .1 .1 .0) (ap length (z .pre .0)) (p .feed-pieces .kept .1 .1 .1 .1 .1 .0)
-          (p .feed-pieces .result .granted) (c .is-enough2 .result)
-          (pieces-granted (a .room) (a .parts-list .now) (a .text .now) (a .parts .now) (a .scant) (a .cuts .now) (z .pre .1) (many p) (p .feed-pieces .ensures))
-          (c .is-enough2 .ensures) (not-true _ (c .before .if3 .taken));
-      buffers = buffers p;
-    }
-
-one-ran : (c : tie.Else3)
-    → Ran (start (calls c) .args .room) (start (calls c) .args .once-list .now) (start (calls c) .args .text .now) (start (calls c) .args .once .now)
-    (one (first-feed (calls c)))
-one-ran c =
-    let o = first-feed (calls c) in
-    let a = start (calls c) .args in
-    through-ran (a .room) (a .once-list .now) (a .text .now) (a .once .now) (whole (a .text .now) (a .once .now) ∷ []) (one o) (o .feed-once .ensures)
-    (not-false _ (c .before .before .if2 .left))
-
-many-ran : (c : tie.Else3)
-    → Ran (start (calls c) .args .room) (start (calls c) .args .parts-list .now) (start (calls c) .args .text .now) (start (calls c) .args .parts .now)
-    (many (calls c))
-many-ran c =
-    let p = calls c in
-    let a = start p .args in
-    through-ran (a .room) (a .parts-list .now) (a .text .now) (a .parts .now) (pieces (a .text .now) (a .cuts .now) (a .scant) (a .parts .now)) (many p)
-    (p .feed-pieces .ensures) (not-false _ (c .if3 .left))
-
-same-totals-requires : tie.Need-same-totals-requires
-same-totals-requires c κs = search needs
+    let same : p .feed-pieces .result .granted ≡ c .before .before .is-enough2 .result
+    = as-asked (a .room) (p .feed-pieces .kept .1 .1 .1 .1 .1 .1 .0) (ap length (z .pre .0)) (p .feed-pieces .kept .1 .1 .1 .1 .1 .0)
+    (p .feed-pieces .result .granted) (c .before .before .is-enough2 .result)
+    (pieces-granted (a .room) (a .parts-list .now) (a .text .now) (a .parts .now) (a .scant) (a .cuts .now) (z .pre .1) (many p) (p .feed-pieces .ensures))
+    (c .before .before .is-enough2 .ensures) in
+    absurd (no-other _ _ same (c .if3 .taken))
 
 same-length-13 : tie.Need-same-length-13
 same-length-13 c = search needs
@@ -165,13 +142,64 @@ same-length-16 : tie.Need-same-length-16
 same-length-16 c = search needs
 
 returns-4 : tie.Need-returns-4
-returns-4 c =
+returns-4 c = record { yes = refl; buffers = buffers (c .before .before .before .before .before .before .before .before .before .before .before .before .before .before) }
+
+same-length-17 : tie.Need-same-length-17
+same-length-17 c = first-feed (c .before .before .before .before .before .before .before .before .before .before .before .before .before .before .before .before) .feed-once .kept .1 .1 .0
+
+same-length-18 : tie.Need-same-length-18
+same-length-18 c = search needs
+
+same-length-19 : tie.Need-same-length-19
+same-length-19 c = search needs
+
+same-length-20 : tie.Need-same-length-20
+same-length-20 c = search needs
+
+returns-5 : tie.Need-returns-5
+returns-5 c = record { yes = refl; buffers = buffers (c .before .before .before .before .before .before .before .before .before .before .before .before .before .before .before .before) }
+
+one-ran : (c : tie.Else5)
+    → Ran (start (calls c) .args .room) (start (calls c) .args .once-list .now) (start (calls c) .args .text .now) (start (calls c) .args .once .now)
+    (one (first-feed (calls c)))
+one-ran c =
+    let o = first-feed (calls c) in
+    let a = start (calls c) .args in
+    through-ran (a .room) (a .once-list .now) (a .text .now) (a .once .now) (whole (a .text .now) (a .once .now) ∷ []) (one o) (o .feed-once .ensures)
+    (not-false _ (c .before .before .if4 .left))
+
+many-ran : (c : tie.Else5)
+    → Ran (start (calls c) .args .room) (start (calls c) .args .parts-list .now) (start (calls c) .args .text .now) (start (calls c) .args .parts .now)
+    (many (calls c))
+many-ran c =
+    let p = calls c in
+    let a = start p .args in
+    through-ran (a .room) (a .parts-list .now) (a .text .now) (a .parts .now) (pieces (a .text .now) (a .cuts .now) (a .scant) (a .parts .now)) (many p)
+    (p .feed-pieces .ensures) (not-false _ (c .if5 .left))
+
+same-totals-requires : tie.Need-same-totals-requires
+same-totals-requires c κs = search needs
+
+same-length-21 : tie.Need-same-length-21
+same-length-21 c = first-feed (calls (c .before .before)) .feed-once .kept .1 .1 .0
+
+same-length-22 : tie.Need-same-length-22
+same-length-22 c = first-feed (calls (c .before .before)) .feed-once .kept .1 .1 .1 .0
+
+same-length-23 : tie.Need-same-length-23
+same-length-23 c = search needs
+
+same-length-24 : tie.Need-same-length-24
+same-length-24 c = search needs
+
+returns-6 : tie.Need-returns-6
+returns-6 c =
     let e = c .before .before in
     let p = calls e in
     let o = first-feed p in
     let a = start p .args in
     absurd (true≢false (sym (same-totals (a .room) (a .once-list .now) (a .parts-list .now) (a .text .now) (a .once .now) (a .parts .now) (one o) (many p) (one-ran e) (many-ran e))
-    ∙ sym (c .before .same-totals .ensures) ∙ not-true _ (c .if4 .taken)))
+    ∙ sym (c .before .same-totals .ensures) ∙ not-true _ (c .if6 .taken)))
 
 least-requires : tie.Need-least-requires
 least-requires c κs = search needs
@@ -221,20 +249,20 @@ slice-aggregate-same-texts-4 c = sym (length-take-le _ _ (stored-parts (c .befor
 same-texts-requires : tie.Need-same-texts-requires
 same-texts-requires c κs = search needs
 
-same-length-17 : tie.Need-same-length-17
-same-length-17 c = search needs
+same-length-25 : tie.Need-same-length-25
+same-length-25 c = first-feed (calls (c .before .before .before .before .before .before .before .before)) .feed-once .kept .1 .1 .0
 
-same-length-18 : tie.Need-same-length-18
-same-length-18 c = search needs
+same-length-26 : tie.Need-same-length-26
+same-length-26 c = first-feed (calls (c .before .before .before .before .before .before .before .before)) .feed-once .kept .1 .1 .1 .0
 
-same-length-19 : tie.Need-same-length-19
-same-length-19 c = search needs
+same-length-27 : tie.Need-same-length-27
+same-length-27 c = calls (c .before .before .before .before .before .before .before .before) .feed-pieces .kept .1 .1 .1 .1 .1 .0
 
-same-length-20 : tie.Need-same-length-20
-same-length-20 c = search needs
+same-length-28 : tie.Need-same-length-28
+same-length-28 c = search needs
 
-returns-5 : tie.Need-returns-5
-returns-5 c =
+returns-7 : tie.Need-returns-7
+returns-7 c =
     let l = c .before .before .before .before .before in
     let e = l .before .before .before in
     let p = calls e in
@@ -277,12 +305,22 @@ fed-alike-spec =
     same-length-11
     same-length-12
     returns-3
-    same-totals-requires
     same-length-13
     same-length-14
     same-length-15
     same-length-16
     returns-4
+    same-length-17
+    same-length-18
+    same-length-19
+    same-length-20
+    returns-5
+    same-totals-requires
+    same-length-21
+    same-length-22
+    same-length-23
+    same-length-24
+    returns-6
     least-requires
     mul-n
     slice-reshare-prefix-same-texts
@@ -294,8 +332,8 @@ fed-alike-spec =
     slice-reshare-prefix-same-texts-4
     slice-aggregate-same-texts-4
     same-texts-requires
-    same-length-17
-    same-length-18
-    same-length-19
-    same-length-20
-    returns-5)
+    same-length-25
+    same-length-26
+    same-length-27
+    same-length-28
+    returns-7)
