@@ -4,7 +4,7 @@ use std::path::Path;
 fn main() {
     let folder = Path::new(env!("CARGO_MANIFEST_DIR")).join("../target/staticlib");
     println!("cargo:rustc-link-search=native={}", folder.display());
-    for name in ["viewer", "outside", "outside_places"] {
+    for name in ["viewer", "bridge_texts", "bridge_places"] {
         println!("cargo:rustc-link-lib=static={name}");
         let library = folder.join(format!("lib{name}.a"));
         println!("cargo:rerun-if-changed={}", library.display());

@@ -6,7 +6,7 @@ fn main() {
     let folder = Path::new(env!("CARGO_MANIFEST_DIR")).join("../target/staticlib");
     println!("cargo:rustc-link-search=native={}", folder.display());
     println!("cargo:rustc-link-lib=static=viewer");
-    for archive in ["libviewer.a", "liboutside.a", "liboutside_places.a"] {
+    for archive in ["libviewer.a", "libbridge_texts.a", "libbridge_places.a"] {
         println!("cargo:rerun-if-changed={}", folder.join(archive).display());
     }
 }

@@ -18,7 +18,7 @@ Each case runs ours and the peer's in turn in one process. A ratio is the peer's
 median of the ratios of neighbouring samples. The speeds are from the median times of each. Texts are made by the program from fixed seeds. Before it is timed, each case is compared: both \
 sides must agree.
 
-- Check and repair are the viewer's routines. The other calls go through the wrappers of the crates `outside` and `outside_places`, which \
+- Check and repair are the viewer's routines. The other calls go through the wrappers of the crates `bridge_texts` and `bridge_places`, which \
 add a call and a few numbers told.
 - Output buffers are made and touched once before the timing, and are not cleared between runs; the same holds for peers that write \
 into a ready buffer (encoding_rs, and std's conversions here).

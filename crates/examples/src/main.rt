@@ -1,12 +1,12 @@
 // Runs the fixed examples on the compiled library and prints what it finds: of each text its elements, its segments, what the
 // strict check tells in the numbers of the refusals (0 is well-formed), its repaired form, and the same in the other form.
-use builder::Builder;
+use decoder::Total;
+use index_build::Builder;
 use libc::STDOUT_FILENO;
 use place::Bytes;
 use place::Lines;
 use place::Placed;
 use place::Units;
-use repair::Total;
 use terms::Checked;
 use terms::Decoder;
 use terms::First;
@@ -108,7 +108,7 @@ fn check(c: Checked) {
 
 fn bytes_repaired(text: &[u8]) {
     let mut out = [0u8; 64];
-    match mending::repair(text, &mut out) {
+    match utf8_repair::repair(text, &mut out) {
         Written::Count(n) => spell_bytes(&out[..n]),
         Written::Refused(r) => refused(r),
     }
@@ -116,7 +116,7 @@ fn bytes_repaired(text: &[u8]) {
 
 fn bytes_as_units(text: &[u8]) {
     let mut out = [0u16; 64];
-    match from_bytes::repair_to_units(text, &mut out) {
+    match convert_from_utf8::repair_to_units(text, &mut out) {
         Written::Count(n) => spell_units(&out[..n]),
         Written::Refused(r) => refused(r),
     }
@@ -124,7 +124,7 @@ fn bytes_as_units(text: &[u8]) {
 
 fn units_repaired(text: &[u16]) {
     let mut out = [0u16; 64];
-    match from_units::repair(text, &mut out) {
+    match convert_from_utf16::repair(text, &mut out) {
         Written::Count(n) => spell_units(&out[..n]),
         Written::Refused(r) => refused(r),
     }
@@ -132,7 +132,7 @@ fn units_repaired(text: &[u16]) {
 
 fn units_as_bytes(text: &[u16]) {
     let mut out = [0u8; 64];
-    match from_units::repair_to_bytes(text, &mut out) {
+    match convert_from_utf16::repair_to_bytes(text, &mut out) {
         Written::Count(n) => spell_bytes(&out[..n]),
         Written::Refused(r) => refused(r),
     }
@@ -143,7 +143,7 @@ fn show_bytes(text: &[u8]) {
     spell_bytes(text);
     put(b":");
     byte_segments(text);
-    check(strict_utf8::check(text));
+    check(utf8_check::check(text));
     put(b"; repaired");
     bytes_repaired(text);
     put(b"; units");
@@ -156,7 +156,7 @@ fn show_units(text: &[u16]) {
     spell_units(text);
     put(b":");
     unit_segments(text);
-    check(strict_utf16::check(text));
+    check(utf16_check::check(text));
     put(b"; repaired");
     units_repaired(text);
     put(b"; bytes");
@@ -182,23 +182,23 @@ fn found(p: Placed) {
 
 fn show_places(text: &[u8]) {
     put(b"unit 2:");
-    found(lookup::at_unit(text, Units(2)));
+    found(place_lookup::at_unit(text, Units(2)));
     put(b"unit 3:");
-    found(lookup::at_unit(text, Units(3)));
+    found(place_lookup::at_unit(text, Units(3)));
     put(b"byte 2:");
-    found(lookup::at_byte(text, Bytes(2)));
+    found(place_lookup::at_byte(text, Bytes(2)));
     put(b"byte 12:");
-    found(lookup::at_byte(text, Bytes(12)));
+    found(place_lookup::at_byte(text, Bytes(12)));
     put(b"line 1:");
-    found(lookup::at_line(text, Lines(1)));
+    found(place_lookup::at_line(text, Lines(1)));
     put(b"line 2:");
-    found(lookup::at_line(text, Lines(2)));
+    found(place_lookup::at_line(text, Lines(2)));
 }
 
 // Feeds a piece, prints what was written, and hands the state on.
 fn show_piece(state: Decoder, piece: &[u8], list: &mut [u32]) -> Decoder {
     let mut out = [0u8; 64];
-    let fed = repair::feed(state, piece, &mut out, list);
+    let fed = decoder::feed(state, piece, &mut out, list);
     let answer = fed.answer;
     let next = fed.state;
     put(b"piece");
@@ -214,7 +214,7 @@ fn show_piece(state: Decoder, piece: &[u8], list: &mut [u32]) -> Decoder {
 
 fn show_end(state: Decoder, list: &mut [u32]) {
     let mut out = [0u8; 64];
-    let answer = repair::finish(state, &mut out, list).answer;
+    let answer = decoder::finish(state, &mut out, list).answer;
     put(b"finish: wrote");
     match answer {
         Total::Given {
@@ -248,12 +248,12 @@ fn show_list(list: &[u32]) {
 
 fn show_pieces() {
     let mut list = [0u32; 4];
-    let a = show_piece(repair::start(2).state, b"\xE2", &mut list);
+    let a = show_piece(decoder::start(2).state, b"\xE2", &mut list);
     let b = show_piece(a, b"\x82", &mut list);
     let c = show_piece(b, b"\x41", &mut list);
     show_end(c, &mut list);
     show_list(&list);
-    let d = show_piece(repair::start(2).state, b"\x80\x80\x80\x80\x80", &mut list);
+    let d = show_piece(decoder::start(2).state, b"\x80\x80\x80\x80\x80", &mut list);
     show_end(d, &mut list);
     show_list(&list);
 }
@@ -261,9 +261,9 @@ fn show_pieces() {
 // Builds the index of a text in two pieces.
 fn build_index(text: &[u8], row: &mut [u32]) {
     let half = text.len() / 2;
-    let first = build::feed(Builder::fresh(), &text[..half], row);
-    let second = build::feed(first.state, &text[half..], row);
-    build::finish(second.state, row);
+    let first = index_build::feed(Builder::fresh(), &text[..half], row);
+    let second = index_build::feed(first.state, &text[half..], row);
+    index_build::finish(second.state, row);
 }
 
 fn show_index() {
@@ -284,9 +284,9 @@ fn show_false_index() {
     let mut row = [0u32; 8];
     build_index(&text, &mut row);
     row[5] = 200;
-    found(index::at_byte(&text, &row, Bytes(256)));
-    found(index::at_unit(&text, &row, Units(230)));
-    found(index::at_unit(&text, &row, Units(250)));
+    found(index_lookup::at_byte(&text, &row, Bytes(256)));
+    found(index_lookup::at_unit(&text, &row, Units(230)));
+    found(index_lookup::at_unit(&text, &row, Units(250)));
 }
 
 fn main() {

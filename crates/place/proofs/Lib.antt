@@ -1,8 +1,8 @@
-pub mod Reading
-pub mod Telling
-pub mod Measuring
+pub mod ReaderDivides
+pub mod ToldBack
+pub mod MeasuresRise
 pub mod LineEnds
-pub mod Finding
+pub mod FoundByCounts
 pub mod Longest
-pub mod Stepping
-pub mod Reaching
+pub mod OneStep
+pub mod WalkReached

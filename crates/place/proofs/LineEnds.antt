@@ -7,21 +7,21 @@ use mathlib.Core.List.{List, [], _∷_, _++_}
 use lib.ListN.{take, drop, take-append-drop}
 use borrow.Author.Tests.{ne-eqb}
 use native.Mathlib.Omega.{arith}
-use Rattle.division.specs.Reader.{body, first, rest}
-use Rattle.division.specs.Table.{Kind, whole, damage}
-use Rattle.division.specs.Tally.{total}
-use Rattle.division.specs.Sequence.{Sequence, Stands}
-use Rattle.division.proofs.Cases.{All}
-use Rattle.division.proofs.Dividing.{total-append}
-use Rattle.division.proofs.Matching.{by-rows}
-use Rattle.division.proofs.Placing.{PlaceOf}
+use Rattle.theory.specs.Reader.{body, first, rest}
+use Rattle.theory.specs.Table.{Kind, whole, damage}
+use Rattle.theory.specs.Tally.{total}
+use Rattle.theory.specs.Sequence.{Sequence, Stands}
+use Rattle.theory.proofs.Cases.{All}
+use Rattle.theory.proofs.Divisions.{total-append}
+use Rattle.theory.proofs.SequencesAreWhole.{by-rows}
+use Rattle.theory.proofs.PlacesFound.{PlaceOf}
 use Rattle.utf8.specs.Bytes.{rows, bytes}
-use Rattle.utf8.proofs.Rows.{bytes-read}
-use Rattle.place.proofs.Reading.{reader-division}
+use Rattle.utf8.proofs.RowsOfBytes.{bytes-read}
+use Rattle.place.proofs.ReaderDivides.{reader-division}
 use Rattle.place.specs.Measures.{ruler}
 use Rattle.place.specs.Walk.{linesByHead}
 use Rattle.place.specs.declared.Place.{Place}
-use Rattle.place.proofs.Measuring.{measured, places-keep}
+use Rattle.place.proofs.MeasuresRise.{measured, places-keep}
 
 -- how many bytes 0A there are
 abbrev pub newlines : List ℕ → ℕ

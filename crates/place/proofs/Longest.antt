@@ -7,13 +7,13 @@ use mathlib.Core.List.{List, [], foldl}
 use lib.ListN.{length, take}
 use lib.Seq.{length-take-le}
 use native.Mathlib.Omega.{arith}
-use Rattle.division.specs.Reader.{cut}
-use Rattle.division.specs.Place.{last}
-use Rattle.division.proofs.Placing.{bytes-mono, rise-mono, last-le, last-boundary, last-from, last-most, last-stays, PlaceOf, place-in}
+use Rattle.theory.specs.Reader.{cut}
+use Rattle.theory.specs.Place.{last}
+use Rattle.theory.proofs.PlacesFound.{bytes-mono, rise-mono, last-le, last-boundary, last-from, last-most, last-stays, PlaceOf, place-in}
 use Rattle.place.specs.Measures.{ruler, reader}
 use Rattle.place.specs.Cutting.{beginning}
 use Rattle.place.specs.declared.Place.{Place}
-use Rattle.place.proofs.Measuring.{measured, Rising}
+use Rattle.place.proofs.MeasuresRise.{measured, Rising}
 
 -- THE LONGEST BEGINNING: it ends at a place that counts at most `most`, and no such place lies behind it
 pub record Longest (m : Place → ℕ) (most : ℕ) (text part : List ℕ) : Type 0 where

@@ -3,8 +3,8 @@
 use Prim.Native.Nat.{ℕ}
 use mathlib.Core.List.{List}
 use lib.ListN.{take}
-use Rattle.division.specs.Reader.{cut}
-use Rattle.division.specs.Place.{last}
+use Rattle.theory.specs.Reader.{cut}
+use Rattle.theory.specs.Place.{last}
 use Rattle.place.specs.Measures.{ruler, reader}
 use Rattle.place.specs.declared.Place.{Place}
 

@@ -2,7 +2,7 @@
 -- Assumes nothing.
 use Prim.Native.Nat.{ℕ}
 use mathlib.Core.List.{List, [], _∷_}
-use Rattle.division.specs.Place.{Found, at, inside, past, unusable, plain}
+use Rattle.theory.specs.Place.{Found, at, inside, past, unusable, plain}
 use Rattle.terms.specs.Strict.{limited}
 use Rattle.terms.specs.Told.{refusal}
 use Rattle.place.specs.Measures.{ruler, reader}

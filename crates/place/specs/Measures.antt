@@ -3,10 +3,10 @@
 use Prim.Native.Nat.{ℕ, _+_}
 use mathlib.Core.Bool.{cond}
 use lib.Dec.{ltb, eqb}
-use Rattle.division.specs.Reader.{Reader, Segment}
-use Rattle.division.specs.Table.{Kind}
-use Rattle.division.specs.Tally.{size}
-use Rattle.division.specs.Place.{Ruler}
+use Rattle.theory.specs.Reader.{Reader, Segment}
+use Rattle.theory.specs.Table.{Kind}
+use Rattle.theory.specs.Tally.{size}
+use Rattle.theory.specs.Place.{Ruler}
 use Rattle.terms.specs.Form.{pointOf}
 use Rattle.utf8.specs.Bytes.{bytes}
 use Rattle.utf8.specs.Scalar.{utf8}

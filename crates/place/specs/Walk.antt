@@ -5,8 +5,8 @@ use mathlib.Core.Bool.{Bool, cond, _&&_}
 use mathlib.Core.List.{List, [], _∷_}
 use lib.ListN.{length}
 use lib.Dec.{leb, ltb, eqb}
-use Rattle.division.specs.Reader.{first, cut}
-use Rattle.division.specs.Place.{lookup, last}
+use Rattle.theory.specs.Reader.{first, cut}
+use Rattle.theory.specs.Place.{lookup, last}
 use Rattle.terms.specs.Limits.{limit}
 use Rattle.place.specs.Measures.{place, ruler, reader}
 use Rattle.place.specs.Lookup.{counts, foundSays}

@@ -1,14 +1,14 @@
 // Reports the damages of standard input: a line for each of the first 32, and a line with the totals.
+use decoder::Total;
 use libc::STDIN_FILENO;
 use libc::STDOUT_FILENO;
-use repair::Total;
 use terms::Decoder;
 use terms::Refusal;
 use terms::Written;
 ghost use mathlib.Core.Path.{_≡_};
 ghost use Prim.Native.Nat.{_≤_};
 ghost use lib.ListN.{length};
-ghost use Rattle.repair.specs.Room.{mostFed};
+ghost use Rattle.decoder.specs.Room.{mostFed};
 ghost use Rattle.report.specs.Going.{Goes};
 
 // How the input stands: there may be more, or it ended in one way or another.
@@ -59,7 +59,7 @@ fn take_piece(state: Decoder, piece: &mut [u8], out: &mut [u8], list: &mut [u32]
             state,
         };
     }
-    let fed = repair::feed(state, &piece[..n], out, list);
+    let fed = decoder::feed(state, &piece[..n], out, list);
     let answer = fed.answer;
     let next = fed.state;
     match answer {
@@ -122,7 +122,7 @@ fn refused(r: Refusal) {
 // The end of the text, and what was found in it.
 fn totals(state: Decoder, list: &mut [u32]) {
     let mut out = [0u8; 3];
-    let answer = repair::finish(state, &mut out, list).answer;
+    let answer = decoder::finish(state, &mut out, list).answer;
     match answer {
         Total::Given {
             written: _,
@@ -147,7 +147,7 @@ fn main() {
     let mut list = [0u32; 64];
     let mut piece = io::large_buffer();
     let mut out = most_places();
-    let taken = take_input(repair::start(32).state, &mut piece, &mut out, &mut list);
+    let taken = take_input(decoder::start(32).state, &mut piece, &mut out, &mut list);
     let end = taken.end;
     match end {
         End::Done => totals(taken.state, &mut list),

@@ -6,7 +6,7 @@ use mathlib.Core.Bool.{Bool, true, false, true≢false}
 use mathlib.Core.List.{List, [], _∷_}
 use lib.Dec.{ltb}
 use borrow.Author.Tests.{lt-ltb, le-ltb, ltb-false}
-use Rattle.division.proofs.Cases.{split}
+use Rattle.theory.proofs.Cases.{split}
 use Rattle.terms.specs.Checks.{tested}
 use Rattle.terms.specs.Limits.{limit}
 use Rattle.terms.specs.Told.{isGranted}

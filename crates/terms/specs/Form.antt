@@ -4,9 +4,9 @@ use Prim.Native.Nat.{ℕ}
 use mathlib.Core.Bool.{Bool, cond, _&&_, _||_}
 use mathlib.Core.List.{List, [], _∷_}
 use lib.Dec.{ltb}
-use Rattle.division.specs.Reader.{Reader, Segment, body, first, cut}
-use Rattle.division.specs.Table.{Kind, isDamage}
-use Rattle.division.specs.Tally.{written, size}
+use Rattle.theory.specs.Reader.{Reader, Segment, body, first, cut}
+use Rattle.theory.specs.Table.{Kind, isDamage}
+use Rattle.theory.specs.Tally.{written, size}
 
 -- 0 to D7FF, or E000 to 10FFFF
 abbrev pub isScalar : ℕ → Bool

@@ -5,9 +5,9 @@ use mathlib.Core.Bool.{cond}
 use mathlib.Core.List.{List, [], _∷_}
 use lib.ListN.{length}
 use lib.Dec.{ltb}
-use Rattle.division.specs.Reader.{Reader, cut}
-use Rattle.division.specs.Table.{Kind, isDamage}
-use Rattle.division.specs.Tally.{Entry, entries}
+use Rattle.theory.specs.Reader.{Reader, cut}
+use Rattle.theory.specs.Table.{Kind, isDamage}
+use Rattle.theory.specs.Tally.{Entry, entries}
 use Rattle.terms.specs.Limits.{limit}
 
 -- the damage entries of a text

@@ -5,8 +5,8 @@ use mathlib.Core.Bool.{Bool, cond}
 use mathlib.Core.List.{List, [], _∷_}
 use lib.ListN.{getD}
 use lib.Dec.{eqb}
-use Rattle.division.specs.Reader.{Look, Reader}
-use Rattle.division.specs.Table.{Kind, isDamage}
+use Rattle.theory.specs.Reader.{Look, Reader}
+use Rattle.theory.specs.Table.{Kind, isDamage}
 use Rattle.terms.specs.declared.First.{First}
 use Rattle.terms.specs.declared.First.the-variants.{Nothing, Whole, Damage, Begun}
 use Rattle.terms.specs.declared.Refusal.{Refusal}

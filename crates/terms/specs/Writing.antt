@@ -6,8 +6,8 @@ use mathlib.Core.Bool.{cond}
 use mathlib.Core.List.{List, [], _∷_, _++_}
 use lib.ListN.{length, drop}
 use lib.Dec.{ltb}
-use Rattle.division.specs.Tally.{Entry}
-use Rattle.division.specs.Table.{Kind}
+use Rattle.theory.specs.Tally.{Entry}
+use Rattle.theory.specs.Table.{Kind}
 use Rattle.terms.specs.Form.{Form, converted}
 use Rattle.terms.specs.Strict.{damages, strictly, limited}
 use Rattle.terms.specs.Told.{written, ifGranted}

@@ -1,5 +1,5 @@
-pub mod Rows
-pub mod Accepting
-pub mod Reading
-pub mod Scalars
-pub mod Plain
+pub mod RowsOfUnits
+pub mod AcceptsWellFormed
+pub mod ReaderTells
+pub mod FaithfulForm
+pub mod PlainDivides

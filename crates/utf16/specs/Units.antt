@@ -1,8 +1,8 @@
 -- UTF-16: the well-formed units and pairs, and the reader of texts of units.
 -- Assumes nothing.
 use mathlib.Core.List.{List, [], _∷_}
-use Rattle.division.specs.Reader.{Reader}
-use Rattle.division.specs.Table.{_to_, Row, Kind, read}
+use Rattle.theory.specs.Reader.{Reader}
+use Rattle.theory.specs.Table.{_to_, Row, Kind, read}
 
 -- a first half is followed by a second half; any other unit that is no half stands by itself
 unfoldable pub rows : List Row

@@ -1,4 +1,4 @@
-pub mod Rows
-pub mod Accepting
-pub mod Following
-pub mod Scalars
+pub mod RowsOfBytes
+pub mod AcceptsWellFormed
+pub mod LoopTells
+pub mod FaithfulForm

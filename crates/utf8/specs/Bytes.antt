@@ -1,8 +1,8 @@
 -- UTF-8: the well-formed byte sequences of the Unicode Standard, table 3-7, and the reader of byte texts.
 -- Assumes nothing.
 use mathlib.Core.List.{List, [], _∷_}
-use Rattle.division.specs.Reader.{Reader}
-use Rattle.division.specs.Table.{Range, _to_, Row, Kind, read}
+use Rattle.theory.specs.Reader.{Reader}
+use Rattle.theory.specs.Table.{Range, _to_, Row, Kind, read}
 
 abbrev pub row : Range → List Range → Row
 row lead later = record { lead = lead; later = later }

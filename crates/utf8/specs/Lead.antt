@@ -3,7 +3,7 @@
 use Prim.Native.Nat.{ℕ, zero, suc}
 use mathlib.Core.List.{List, [], _∷_}
 use mathlib.Core.Option.{Option, none, some}
-use Rattle.division.specs.Table.{Range, _to_}
+use Rattle.theory.specs.Table.{Range, _to_}
 use Rattle.utf8.specs.Bytes.{next}
 use Rattle.utf8.specs.declared.Lead.{Lead}
 use Rattle.utf8.specs.declared.Lead.the-variants.{Alone, Begins}

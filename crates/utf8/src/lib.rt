@@ -5,7 +5,7 @@ ghost use mathlib.Core.Path.{_≡_};
 ghost use Prim.Native.Nat.{_≤_, _<_};
 ghost use mathlib.Core.List.{[], _∷_};
 ghost use lib.ListN.{length, take, drop};
-ghost use Rattle.division.specs.Table.{_to_, within, want, begun};
+ghost use Rattle.theory.specs.Table.{_to_, within, want, begun};
 ghost use Rattle.terms.specs.Told.{first, lookSays, firstSays};
 ghost use Rattle.terms.specs.Form.{pointSays};
 ghost use Rattle.utf8.specs.Bytes.{rows, bytes};

@@ -1,2 +1,2 @@
-pub mod Replying
-pub mod Once
+pub mod RepliesTold
+pub mod OneAnswer

@@ -28,7 +28,7 @@ fn refused(r: Refusal) -> u64
 pub extern "C" fn moxandril_check(text: &[u8]) -> u64
     ensures { λ r. ⌜ r ≡ checkReply (now (text .entry)) ⌝ }
 {
-    match strict_utf8::check(text) {
+    match utf8_check::check(text) {
         Checked::WellFormed => 0,
         Checked::Refused(r) => refused(r),
     }
@@ -49,7 +49,7 @@ fn unwritten(r: Refusal) -> u64
 pub extern "C" fn moxandril_repair(text: &[u8], out: &mut [u8]) -> u64
     ensures { λ r. ⌜ Repairs (now (text .entry)) (now (out .entry)) (now (out .exit)) r ⌝ }
 {
-    match mending::repair(text, out) {
+    match utf8_repair::repair(text, out) {
         Written::Count(n) => wide(n),
         Written::Refused(r) => unwritten(r),
     }

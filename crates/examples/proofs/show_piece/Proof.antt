@@ -5,7 +5,7 @@ use mathlib.Core.Path.{sym}
 use lib.ListN.{length}
 use lib.Seq.{length-take-le}
 use native.Mathlib.Omega.{arith}
-use Rattle.repair.proofs.Taking.{granted}
+use Rattle.decoder.proofs.GrantedFeedTakes.{granted}
 use borrow.Author.Needs.{needs}
 use Rattle.examples.proofs.show_piece.Statement.{statement}
 use Rattle.examples.proofs.show_piece.Tie as tie

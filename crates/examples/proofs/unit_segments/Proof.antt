@@ -3,8 +3,8 @@
 use Prim.Native.Nat.{_-_, _+_, _≤_, _<_}
 use lib.ListN.{length}
 use native.Mathlib.Omega.{arith}
-use Rattle.terms.proofs.Walking.{turn-size}
-use Rattle.utf16.proofs.Rows.{units-division}
+use Rattle.terms.proofs.WalkBySegments.{turn-size}
+use Rattle.utf16.proofs.RowsOfUnits.{units-division}
 use borrow.Author.Needs.{needs}
 use Rattle.examples.proofs.unit_segments.Statement.{statement}
 use Rattle.examples.proofs.unit_segments.Tie as tie

@@ -6,7 +6,7 @@ use lib.ListN.{length}
 use lib.Seq.{length-take-le}
 use native.Mathlib.Omega.{arith}
 use Rattle.terms.specs.Form.{repaired}
-use Rattle.terms.proofs.Answering.{repair-count}
+use Rattle.terms.proofs.AnswersWritten.{repair-count}
 use Rattle.utf16.specs.Scalar.{utf16}
 use borrow.Author.Needs.{needs}
 use Rattle.examples.proofs.units_repaired.Statement.{statement}

@@ -1,4 +1,4 @@
--- `place::lines_of` meets its contract: its test is the definition's.
+-- `lines_of` meets its contract: its test is the definition's.
 -- Assumes nothing.
 use borrow.Author.Tests.{eq-eqb, ne-eqb}
 use Rattle.place.proofs.lines_of.Statement.{statement}

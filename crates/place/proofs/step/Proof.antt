@@ -1,8 +1,8 @@
--- `place::step` meets its contract: the segment that the reader told is added in all four counts.
+-- `step` meets its contract: the segment that the reader told is added in all four counts.
 -- Assumes nothing.
 use native.Mathlib.Omega.{arith}
 use borrow.Author.Needs.{needs}
-use Rattle.place.proofs.Stepping.{stepped-end, added}
+use Rattle.place.proofs.OneStep.{stepped-end, added}
 use Rattle.place.proofs.step.Statement.{statement}
 use Rattle.place.proofs.step.Tie as tie
 

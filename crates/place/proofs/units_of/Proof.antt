@@ -1,4 +1,4 @@
--- `place::units_of` meets its contract: its test is the definition's.
+-- `units_of` meets its contract: its test is the definition's.
 -- Assumes nothing.
 use borrow.Author.Tests.{eq-eqb, ne-eqb}
 use Rattle.place.proofs.units_of.Statement.{statement}

@@ -1,7 +1,7 @@
 -- A piece that was fed was not empty.
 -- Assumes nothing.
 use native.Mathlib.Omega.{arith}
-use Rattle.repair.proofs.Taking.{taken-is, granted}
+use Rattle.decoder.proofs.GrantedFeedTakes.{taken-is, granted}
 use borrow.Author.Needs.{needs}
 use Rattle.report.proofs.take_piece.Statement.{statement}
 use Rattle.report.proofs.take_piece.Tie as tie

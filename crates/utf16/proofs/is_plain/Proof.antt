@@ -9,7 +9,7 @@ use native.Mathlib.Omega.{arith}
 use borrow.Author.Needs.{needs}
 use Rattle.terms.specs.Told.{bit}
 use Rattle.utf16.specs.Plain.{plain, alone}
-use Rattle.utf16.proofs.Plain.{plain-next, halves-next, halves-none}
+use Rattle.utf16.proofs.PlainDivides.{plain-next, halves-next, halves-none}
 use Rattle.utf16.proofs.is_plain.Statement.{statement}
 use Rattle.utf16.proofs.is_plain.Tie as tie
 

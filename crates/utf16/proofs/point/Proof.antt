@@ -1,12 +1,12 @@
--- `utf16::point` meets its contract: each arm is a law of `Pointing`, and a whole segment is a unit or a pair.
+-- `point` meets its contract: each arm is a law of `Pointing`, and a whole segment is a unit or a pair.
 -- Assumes nothing.
 use mathlib.Core.Path.{_≡_}
 use native.Mathlib.Omega.{arith}
 use borrow.Author.Needs.{needs}
-use Rattle.terms.proofs.Pointing.{Pointed, says-of, point-nothing, point-whole, point-damage, point-begun}
+use Rattle.terms.proofs.PointTold.{Pointed, says-of, point-nothing, point-whole, point-damage, point-begun}
 use Rattle.utf16.specs.Scalar.{utf16}
-use Rattle.utf16.proofs.Rows.{FirstHalf, SecondHalf, units-division}
-use Rattle.utf16.proofs.Reading.{whole-pair}
+use Rattle.utf16.proofs.RowsOfUnits.{FirstHalf, SecondHalf, units-division}
+use Rattle.utf16.proofs.ReaderTells.{whole-pair}
 use Rattle.utf16.proofs.point.Statement.{statement}
 use Rattle.utf16.proofs.point.Tie as tie
 

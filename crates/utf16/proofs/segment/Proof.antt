@@ -1,11 +1,11 @@
--- `utf16::segment` meets its contract: each arm is a law of `Reading`.
+-- `segment` meets its contract: each arm is a law of `Reading`.
 -- Assumes nothing.
 use mathlib.Core.Logic.{inl, inr}
 use native.Mathlib.Omega.{arith}
 use borrow.Author.Needs.{needs}
-use Rattle.terms.proofs.Walking.{says-nothing}
+use Rattle.terms.proofs.WalkBySegments.{says-nothing}
 use Rattle.utf16.specs.Units.{units}
-use Rattle.utf16.proofs.Reading.{reads-whole, reads-second, reads-ended, reads-stopped, reads-pair}
+use Rattle.utf16.proofs.ReaderTells.{reads-whole, reads-second, reads-ended, reads-stopped, reads-pair}
 use Rattle.utf16.proofs.segment.Statement.{statement}
 use Rattle.utf16.proofs.segment.Tie as tie
 

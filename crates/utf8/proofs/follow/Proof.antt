@@ -1,10 +1,10 @@
--- `utf8::follow` meets its contract, by the laws of `Following`.
+-- `follow` meets its contract, by the laws of `Following`.
 -- Assumes nothing.
 use Prim.Native.Nat.{_-_, suc}
 use mathlib.Core.Path.{sym, _∙_}
 use native.Mathlib.Omega.{arith}
 use borrow.Author.Tests.{not-true, not-false}
-use Rattle.utf8.proofs.Following.{Followed, follow-start, follow-whole, follow-ended, follow-stopped, follow-next}
+use Rattle.utf8.proofs.LoopTells.{Followed, follow-start, follow-whole, follow-ended, follow-stopped, follow-next}
 use borrow.Author.Needs.{needs}
 use Rattle.utf8.proofs.follow.Statement.{statement}
 use Rattle.utf8.proofs.follow.Tie as tie

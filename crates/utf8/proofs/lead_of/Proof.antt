@@ -3,9 +3,9 @@
 use mathlib.Core.Path.{refl}
 use mathlib.Core.List.{[], _∷_}
 use native.Mathlib.Omega.{arith}
-use Rattle.division.specs.Table.{_to_}
+use Rattle.theory.specs.Table.{_to_}
 use Rattle.utf8.specs.Bytes.{row, next, rows}
-use Rattle.utf8.proofs.Rows.{at-row, at-none}
+use Rattle.utf8.proofs.RowsOfBytes.{at-row, at-none}
 use Rattle.utf8.proofs.lead_of.Statement.{statement}
 use Rattle.utf8.proofs.lead_of.Tie as tie
 

@@ -1,11 +1,11 @@
--- `utf8::number_of` meets its contract: each return has the bits of as many bytes as its test says.
+-- `number_of` meets its contract: each return has the bits of as many bytes as its test says.
 -- Assumes nothing.
 use mathlib.Core.Path.{_≡_}
 use Prim.Native.Nat.{ℕ}
 use lib.ListN.{take}
 use native.Mathlib.Omega.{arith}
 use borrow.Author.Needs.{needs}
-use Rattle.terms.proofs.Pointing.{elements, value-of}
+use Rattle.terms.proofs.PointTold.{elements, value-of}
 use Rattle.utf8.specs.Scalar.{number}
 use Rattle.utf8.proofs.number_of.Statement.{statement}
 use Rattle.utf8.proofs.number_of.Tie as tie

@@ -1,10 +1,10 @@
--- `utf8::point` meets its contract: each arm is a law of `Pointing`, and a whole segment has the number of its bytes.
+-- `point` meets its contract: each arm is a law of `Pointing`, and a whole segment has the number of its bytes.
 -- Assumes nothing.
 use native.Mathlib.Omega.{arith}
 use borrow.Author.Needs.{needs}
-use Rattle.terms.proofs.Pointing.{Pointed, point-nothing, point-whole, point-damage, point-begun}
+use Rattle.terms.proofs.PointTold.{Pointed, point-nothing, point-whole, point-damage, point-begun}
 use Rattle.utf8.specs.Scalar.{utf8}
-use Rattle.utf8.proofs.Rows.{bytes-division, bytes-top}
+use Rattle.utf8.proofs.RowsOfBytes.{bytes-division, bytes-top}
 use Rattle.utf8.proofs.point.Statement.{statement}
 use Rattle.utf8.proofs.point.Tie as tie
 

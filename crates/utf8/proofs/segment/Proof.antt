@@ -1,11 +1,11 @@
--- `utf8::segment` meets its contract: what the first byte begins says all.
+-- `segment` meets its contract: what the first byte begins says all.
 -- Assumes nothing.
 use mathlib.Core.Path.{sym, _∙_}
 use native.Mathlib.Omega.{arith}
 use borrow.Author.Needs.{needs}
-use Rattle.terms.proofs.Walking.{says-nothing}
+use Rattle.terms.proofs.WalkBySegments.{says-nothing}
 use Rattle.utf8.specs.Bytes.{bytes}
-use Rattle.utf8.proofs.Rows.{first-alone, first-begun}
+use Rattle.utf8.proofs.RowsOfBytes.{first-alone, first-begun}
 use Rattle.utf8.proofs.segment.Statement.{statement}
 use Rattle.utf8.proofs.segment.Tie as tie
 

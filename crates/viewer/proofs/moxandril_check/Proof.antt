@@ -3,7 +3,7 @@
 use mathlib.Core.Path.{sym, ap, _∙_}
 use Rattle.terms.specs.Told.{checked}
 use Rattle.viewer.specs.Replies.{checkNumber}
-use Rattle.viewer.proofs.Replying.{small}
+use Rattle.viewer.proofs.RepliesTold.{small}
 use borrow.Author.Needs.{needs}
 use Rattle.viewer.proofs.moxandril_check.Statement.{statement}
 use Rattle.viewer.proofs.moxandril_check.Tie as tie

@@ -2,7 +2,7 @@
 -- Assumes nothing.
 use mathlib.Core.Path.{sym, _∙_}
 use native.Mathlib.Omega.{arith}
-use Rattle.viewer.proofs.Replying.{reply-damaged, reply-other}
+use Rattle.viewer.proofs.RepliesTold.{reply-damaged, reply-other}
 use borrow.Author.Needs.{needs}
 use Rattle.viewer.proofs.refused.Statement.{statement}
 use Rattle.viewer.proofs.refused.Tie as tie

@@ -1,7 +1,7 @@
 -- Number 3 is one less than the largest number, and any other is the largest.
 -- Assumes nothing.
 use mathlib.Core.Path.{sym, _∙_}
-use Rattle.viewer.proofs.Replying.{reply-room, reply-over}
+use Rattle.viewer.proofs.RepliesTold.{reply-room, reply-over}
 use borrow.Author.Needs.{needs}
 use Rattle.viewer.proofs.unwritten.Statement.{statement}
 use Rattle.viewer.proofs.unwritten.Tie as tie

@@ -5,7 +5,7 @@ use Prim.Native.Nat.{ℕ, _+_, _-_, _≤_}
 use lib.Dec.{ltb}
 use native.Mathlib.Omega.{arith}
 use borrow.Author.Tests.{lt-ltb, le-ltb}
-use Rattle.division.proofs.Cases.{under}
+use Rattle.theory.proofs.Cases.{under}
 use Rattle.terms.specs.Limits.{limit}
 use Rattle.place.proofs.Place.over.Statement.{statement}
 use Rattle.place.proofs.Place.over.Tie as tie

@@ -1,3 +1,0 @@
-pub mod Entries
-pub mod Auditing
-pub mod Exactness

@@ -1,0 +1,5 @@
+pub mod Telling
+pub mod Writing
+pub mod States
+pub mod Keeping
+pub mod Answers

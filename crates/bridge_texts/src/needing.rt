@@ -1,0 +1,35 @@
+// The most places that a call can need.
+use convert_point::Target;
+ghost use mathlib.Core.Path.{_≡_};
+ghost use Rattle.convert_point.specs.Room.{mostOf};
+ghost use Rattle.decoder.specs.Room.{mostFed};
+ghost use Rattle.bridge_texts.specs.Needing.{targetOf};
+
+// 0 bytes, 1 units, else code points.
+fn target_of(kind: usize) -> Target
+    ensures { λ r. ⌜ r ≡ targetOf kind ⌝ }
+{
+    if kind == 0 {
+        return Target::Bytes;
+    }
+    if kind == 1 {
+        return Target::Units;
+    }
+    Target::Codes
+}
+
+#[no_mangle]
+pub extern "C" fn bridge_most(from: usize, to: usize, n: usize) -> usize
+    ensures { λ r. ⌜ r ≡ mostOf (targetOf from) (targetOf to) n ⌝ }
+{
+    let one = target_of(from);
+    let other = target_of(to);
+    convert_point::most(one, other, n)
+}
+
+#[no_mangle]
+pub extern "C" fn bridge_decoder_most(n: usize) -> usize
+    ensures { λ r. ⌜ r ≡ mostFed n ⌝ }
+{
+    decoder::most(n)
+}

@@ -1,4 +1,0 @@
-pub mod Building
-pub mod Steps
-pub mod Runs
-pub mod Course

@@ -1,2 +1,0 @@
-pub mod Checkpoints
-pub mod Choosing

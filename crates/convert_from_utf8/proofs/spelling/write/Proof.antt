@@ -1,0 +1,60 @@
+-- Where the output has a place for each byte there is room without counting; else the need is counted first.
+-- Assumes nothing.
+use native.Mathlib.Omega.{arith}
+use Rattle.convert_from_utf8.specs.Spell.{spelled}
+use Rattle.convert_from_utf8.proofs.SpelledByKind.{spelled-few}
+use Rattle.terms.proofs.AnswersWritten.{roomed-short, roomed-done}
+use borrow.Author.Needs.{needs}
+use Rattle.convert_from_utf8.proofs.spelling.write.Statement.{statement}
+use Rattle.convert_from_utf8.proofs.spelling.write.Tie as tie
+
+put-requires : tie.Need-put-requires
+put-requires c κs =
+    let a = c .before .before .before .before .args in
+    omega (arith, spelled-few (a .text .now), c .before .if1 .taken)
+
+same-length : tie.Need-same-length
+same-length c = search needs
+
+returns : tie.Need-returns
+returns c =
+    let p = c .before .before in
+    let i = p .before .before in
+    let a = i .before .before .before .args in
+    roomed-done (spelled (a .text .now)) (a .out .now) (p .put .result) (p .put .ensures .count) (omega (arith, spelled-few (a .text .now), i .if1 .taken)) _ (p .put .ensures .output)
+
+need-requires : tie.Need-need-requires
+need-requires c κs = search needs
+
+returns-2 : tie.Need-returns-2
+returns-2 c =
+    let n = c .before in
+    let a = n .before .before .before .before .args in
+    roomed-short (spelled (a .text .now)) (a .out .now) (n .need .result) (n .need .ensures) (c .if2 .taken)
+
+put-requires-2 : tie.Need-put-requires-2
+put-requires-2 c κs = search needs
+
+same-length-2 : tie.Need-same-length-2
+same-length-2 c = search needs
+
+returns-3 : tie.Need-returns-3
+returns-3 c =
+    let p = c .before .before in
+    let i = p .before .before in
+    let n = i .before in
+    let a = n .before .before .before .before .args in
+    roomed-done (spelled (a .text .now)) (a .out .now) _ (p .put2 .ensures .count) (omega (arith, n .need .ensures, i .if2 .left)) _ (p .put2 .ensures .output)
+
+pub write-spec : {M : Type 1} → statement M
+write-spec =
+    tie.close
+    (tie.spec
+    put-requires
+    same-length
+    returns
+    need-requires
+    returns-2
+    put-requires-2
+    same-length-2
+    returns-3)

@@ -1,0 +1,208 @@
+-- What is written, and what the rest of the text writes, is the form.
+-- Assumes nothing.
+use Prim.Native.Nat.{_+_, _-_}
+use lib.ListN.{length}
+use native.Mathlib.Omega.{arith}
+use Rattle.terms.proofs.WalkWrites.{Met, met, back, Wrote, wrote-start, wrote-end}
+use Rattle.utf8.specs.Scalar.{utf8}
+use Rattle.utf16.specs.Scalar.{utf16}
+use Rattle.utf8.proofs.FaithfulForm.{utf8-faithful}
+use Rattle.convert_from_utf8.proofs.RunsSpelled.{run-in-part, units-room, wrote-units}
+use Rattle.convert_point.proofs.PointWritten.{wrote-put}
+use borrow.Author.Needs.{needs}
+use Rattle.convert_from_utf8.proofs.write_units.Statement.{statement}
+use Rattle.convert_from_utf8.proofs.write_units.Tie as tie
+
+abbrev Inv-loop : tie.InvT-loop
+Inv-loop text out₀ at₀ done₀ calm₀ out at done calm = Wrote utf8 utf16 text out₀ out at done
+
+abbrev μ-loop : tie.MeasureT-loop
+μ-loop text out₀ at₀ done₀ calm₀ out at done calm = length text - at
+
+loop-holds : tie.Need-loop-holds Inv-loop μ-loop
+loop-holds c = let a = c .before .before .args in wrote-start utf8 utf16 (a .text .now) (a .out .now)
+
+sub-run-of : tie.Need-sub-run-of Inv-loop μ-loop
+sub-run-of c = let i = c .loop .inv .inside in search needs
+
+part-run-of-start : tie.Need-part-run-of-start Inv-loop μ-loop
+part-run-of-start c = let i = c .loop .inv .inside in search needs
+
+part-run-of-end : tie.Need-part-run-of-end Inv-loop μ-loop
+part-run-of-end c = search needs
+
+run-of-requires : tie.Need-run-of-requires Inv-loop μ-loop
+run-of-requires c κs = search needs
+
+sub-spell : tie.Need-sub-spell Inv-loop μ-loop
+sub-spell c = let i = c .before .before .loop .inv .inside in search needs
+
+part-spell-start : tie.Need-part-spell-start Inv-loop μ-loop
+part-spell-start c = let i = c .before .before .loop .inv .inside in search needs
+
+part-spell-end : tie.Need-part-spell-end Inv-loop μ-loop
+part-spell-end c = search needs
+
+mul-spell : tie.Need-mul-spell Inv-loop μ-loop
+mul-spell c = search needs
+
+sub-spell-2 : tie.Need-sub-spell-2 Inv-loop μ-loop
+sub-spell-2 c = search needs
+
+part-spell-start-2 : tie.Need-part-spell-start-2 Inv-loop μ-loop
+part-spell-start-2 c = search needs
+
+part-spell-end-2 : tie.Need-part-spell-end-2 Inv-loop μ-loop
+part-spell-end-2 c = search needs
+
+spell-requires : tie.Need-spell-requires Inv-loop μ-loop
+spell-requires c κs =
+    let r = c .before .before in
+    let l = r .before .before in
+    let z = l .before .before .before in
+    let text = z .args .text .now in (
+      run-in-part text (l .loop .at) (l .loop .calm) (r .run-of .result) (l .loop .inv .inside) (r .run-of .ensures),
+      units-room text (l .loop .at) (l .loop .calm) (r .run-of .result) (l .loop .inv .inside) (r .run-of .ensures) (z .args .out .now) (l .loop .out) (l .loop .done) (l .loop .inv) (z .pre),
+    )
+
+-- what is written behind the run
+ran : (s : tie.After-spell Inv-loop μ-loop)
+    → let r = s .before .before .before in
+    let l = r .before .before in
+    let a = l .before .before .before .args in
+    Wrote utf8 utf16 (a .text .now) (a .out .now) (back (l .loop .out) (l .loop .done) (s .spell .last .1 .1 .0)) (l .loop .at + r .run-of .result) (l .loop .done + s .spell .result)
+ran s =
+    let r = s .before .before .before in
+    let l = r .before .before in
+    let z = l .before .before .before in
+    wrote-units (z .args .text .now) (l .loop .at) (l .loop .calm) (r .run-of .result) (l .loop .inv .inside) (r .run-of .ensures) (z .args .out .now) (l .loop .out) (l .loop .done)
+    (l .loop .inv) (z .pre) (s .spell .last .1 .1 .0) (s .spell .result) (s .spell .ensures)
+
+add-done : tie.Need-add-done Inv-loop μ-loop
+add-done c = let w = ran (c .before .before) in omega (arith, w .within, c .before .before .before .before .before .before .before .before .before .before .good)
+
+add-at : tie.Need-add-at Inv-loop μ-loop
+add-at c = let w = ran (c .before .before) in omega (arith, w .inside, c .before .before .before .before .before .before .before .before .before .before .good)
+
+same-length : tie.Need-same-length Inv-loop μ-loop
+same-length c = ran (c .before .before .before) .long
+
+returns : tie.Need-returns Inv-loop μ-loop
+returns c =
+    let s = c .before .before .before in
+    let r = s .before .before .before in
+    let l = r .before .before in
+    let a = l .before .before .before .args in
+    let e = wrote-end utf8 utf16 (a .text .now) (a .out .now) (back (l .loop .out) (l .loop .done) (s .spell .last .1 .1 .0)) (l .loop .at + r .run-of .result) (l .loop .done + s .spell .result)
+    (ran s) (c .if1 .taken) in
+    record { count = e .0; output = e .1 }
+
+sub-point : tie.Need-sub-point Inv-loop μ-loop
+sub-point c = let i = ran (c .before .before .before) .inside in search needs
+
+part-point-start : tie.Need-part-point-start Inv-loop μ-loop
+part-point-start c = let i = ran (c .before .before .before) .inside in search needs
+
+part-point-end : tie.Need-part-point-end Inv-loop μ-loop
+part-point-end c = search needs
+
+point-requires : tie.Need-point-requires Inv-loop μ-loop
+point-requires c κs = search needs
+
+mul-put-units : tie.Need-mul-put-units Inv-loop μ-loop
+mul-put-units c = let w = ran (c .before .before .before .before .before) in omega (arith, w .within, w .long, c .before .before .before .before .before .before .before .before .before .before .before .before .before .good)
+
+sub-put-units : tie.Need-sub-put-units Inv-loop μ-loop
+sub-put-units c = let w = ran (c .before .before .before .before .before) in let i = w .within in let j = w .long in search needs
+
+part-put-units-start : tie.Need-part-put-units-start Inv-loop μ-loop
+part-put-units-start c = let w = ran (c .before .before .before .before .before) in let i = w .within in let j = w .long in search needs
+
+part-put-units-end : tie.Need-part-put-units-end Inv-loop μ-loop
+part-put-units-end c = let w = ran (c .before .before .before .before .before) in let i = w .within in let j = w .long in search needs
+
+-- the code point that was read
+here : (p : tie.After-point Inv-loop μ-loop)
+    → let r = p .before .before .before .before .before .before .before .before in
+    let l = r .before .before in
+    Met utf8 (l .before .before .before .args .text .now) (l .loop .at + r .run-of .result) (p .point .result .size) (p .point .result .number)
+here p =
+    let e = p .before .before in
+    let r = e .before .before .before .before .before .before in
+    let l = r .before .before in
+    met utf8-faithful (l .before .before .before .args .text .now) (l .loop .at + r .run-of .result) (e .if1 .left) _ _ (p .point .ensures)
+
+put-units-requires : tie.Need-put-units-requires Inv-loop μ-loop
+put-units-requires c κs = search needs
+
+-- and what is written then
+after : (u : tie.After-put-units Inv-loop μ-loop)
+    → let p = u .before .before in
+    let s = p .before .before .before .before .before in
+    let r = s .before .before .before in
+    let l = r .before .before in
+    let a = l .before .before .before .args in
+    Wrote utf8 utf16 (a .text .now) (a .out .now)
+    (back (back (l .loop .out) (l .loop .done) (s .spell .last .1 .1 .0)) (l .loop .done + s .spell .result) (u .put-units .last .0))
+    (l .loop .at + r .run-of .result + p .point .result .size) (l .loop .done + s .spell .result + u .put-units .result)
+after u =
+    let p = u .before .before in
+    let s = p .before .before .before .before .before in
+    let r = s .before .before .before in
+    let l = r .before .before in
+    let z = l .before .before .before in
+    wrote-put utf8 utf16 (z .args .text .now) (z .args .out .now) (back (l .loop .out) (l .loop .done) (s .spell .last .1 .1 .0)) (l .loop .at + r .run-of .result) (l .loop .done + s .spell .result)
+    (ran s) (z .pre) _ _ (here p) (u .put-units .last .0) (u .put-units .result) (u .put-units .ensures)
+
+add-done-2 : tie.Need-add-done-2 Inv-loop μ-loop
+add-done-2 c = let w = after (c .before .before) in omega (arith, w .within, c .before .before .before .before .before .before .before .before .before .before .before .before .before .before .before .before .before .good)
+
+add-at-2 : tie.Need-add-at-2 Inv-loop μ-loop
+add-at-2 c = let m = here (c .before .before .before .before .before) in omega (arith, m .inside, c .before .before .before .before .before .before .before .before .before .before .before .before .before .before .before .before .before .before .good)
+
+calm-behind-requires : tie.Need-calm-behind-requires Inv-loop μ-loop
+calm-behind-requires c κs = search needs
+
+loop-less : tie.Need-loop-less Inv-loop μ-loop
+loop-less c = let m = here (c .before .before .before .before .before .before) in omega (arith, m .some, m .inside)
+
+loop-again : tie.Need-loop-again Inv-loop μ-loop
+loop-again c = after (c .before .before .before .before)
+
+pub write-units-spec : {M : Type 1} → statement M
+write-units-spec =
+    tie.close
+    (tie.spec
+    Inv-loop
+    μ-loop
+    loop-holds
+    sub-run-of
+    part-run-of-start
+    part-run-of-end
+    run-of-requires
+    sub-spell
+    part-spell-start
+    part-spell-end
+    mul-spell
+    sub-spell-2
+    part-spell-start-2
+    part-spell-end-2
+    spell-requires
+    add-done
+    add-at
+    same-length
+    returns
+    sub-point
+    part-point-start
+    part-point-end
+    point-requires
+    mul-put-units
+    sub-put-units
+    part-put-units-start
+    part-put-units-end
+    put-units-requires
+    add-done-2
+    add-at-2
+    calm-behind-requires
+    loop-less
+    loop-again)

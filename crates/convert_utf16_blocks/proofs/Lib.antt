@@ -1,0 +1,4 @@
+pub mod RowsFilled
+pub mod BytesSqueezed
+pub mod LowUnits
+pub mod OneAnswer

@@ -1,0 +1,9 @@
+pub mod State
+pub mod Feeding
+pub mod Steps
+pub mod Course
+pub mod Room
+pub mod Tests
+pub mod Checks
+pub mod Acting
+pub mod Settling

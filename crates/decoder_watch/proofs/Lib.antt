@@ -1,0 +1,2 @@
+pub mod WatchIsFeed
+pub mod OneAnswer

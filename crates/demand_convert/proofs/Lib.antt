@@ -1,0 +1,4 @@
+pub mod RefusalDue
+pub mod WayBack
+pub mod ThereAndBack
+pub mod OneAnswer

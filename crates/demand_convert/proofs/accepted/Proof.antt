@@ -1,0 +1,22 @@
+-- A well-formed text is granted, and no refusal tells what it does.
+-- Assumes nothing.
+use mathlib.Core.Path.{sym}
+use Rattle.terms.proofs.ToldBack.{no-zero}
+use borrow.Author.Needs.{needs}
+use Rattle.demand_convert.proofs.accepted.Statement.{statement}
+use Rattle.demand_convert.proofs.accepted.Tie as tie
+
+enum-told : tie.Need-enum-told
+enum-told c = search needs
+
+enum-told-2 : tie.Need-enum-told-2
+enum-told-2 c = search needs
+
+returns : tie.Need-returns
+returns c = rw (c .enum-told .given .1)
+
+returns-2 : tie.Need-returns-2
+returns-2 c = rw (c .enum-told2 .given .1) (sym (no-zero (c .enum-told2 .given .0 .0)))
+
+pub accepted-spec : {M : Type 1} → statement M
+accepted-spec = tie.close (tie.spec enum-told enum-told-2 returns returns-2)

@@ -1,0 +1,62 @@
+-- The number and the values are compared; no refusal tells what a well-formed text does.
+-- Assumes nothing.
+use Rattle.terms.proofs.ToldBack.{no-zero}
+use borrow.Author.Needs.{needs}
+use Rattle.demand_convert.proofs.refused_so.Statement.{statement}
+use Rattle.demand_convert.proofs.refused_so.Tie as tie
+
+enum-told : tie.Need-enum-told
+enum-told c = search needs
+
+enum-known-check : tie.Need-enum-known-check
+enum-known-check c = search needs
+
+number-requires : tie.Need-number-requires
+number-requires c κs = search needs
+
+number-requires-2 : tie.Need-number-requires-2
+number-requires-2 c κs = search needs
+
+first-requires : tie.Need-first-requires
+first-requires c κs = search needs
+
+first-requires-2 : tie.Need-first-requires-2
+first-requires-2 c κs = search needs
+
+second-requires : tie.Need-second-requires
+second-requires c κs = search needs
+
+second-requires-2 : tie.Need-second-requires-2
+second-requires-2 c κs = search needs
+
+returns : tie.Need-returns
+returns c = rw (c .enum-told .given .1, no-zero (c .before .before .args .why))
+
+returns-2 : tie.Need-returns-2
+returns-2 c =
+    let n = c .before .before .before .before in
+    let k = n .before .before .before in
+    rw (
+      k .check .given .1,
+      n .before .number .ensures,
+      n .number2 .ensures,
+      c .before .before .before .first .ensures,
+      c .before .before .first2 .ensures,
+      c .before .second .ensures,
+      c .second2 .ensures,
+    )
+
+pub refused-so-spec : {M : Type 1} → statement M
+refused-so-spec =
+    tie.close
+    (tie.spec
+    enum-told
+    enum-known-check
+    number-requires
+    number-requires-2
+    first-requires
+    first-requires-2
+    second-requires
+    second-requires-2
+    returns
+    returns-2)

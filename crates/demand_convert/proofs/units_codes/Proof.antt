@@ -1,0 +1,89 @@
+-- `units_codes` meets its contract: both steps, or whether the refusal of the first was due.
+-- Assumes nothing.
+use Prim.Native.Nat.{_≤_}
+use mathlib.Core.Path.{refl, sym}
+use lib.ListN.{length}
+use lib.Seq.{length-take-le}
+use native.Mathlib.Omega.{arith}
+use Rattle.terms.specs.Strict.{damaged}
+use Rattle.utf16.specs.Scalar.{utf16}
+use Rattle.utf16.proofs.FaithfulForm.{utf16-faithful}
+use Rattle.code_points.specs.Points.{codes, noScalar}
+use Rattle.code_points.proofs.CodePointsDivide.{codes-faithful}
+use Rattle.convert_point.specs.Room.{mostOf}
+use Rattle.convert_point.specs.declared.Target.the-variants.{Units, Codes}
+use Rattle.convert_point.proofs.Enough.{enough}
+use Rattle.demand_convert.proofs.WayBack.{count-fits, round-granted, round-refused}
+use borrow.Author.Needs.{needs}
+use Rattle.demand_convert.proofs.units_codes.Statement.{statement}
+use Rattle.demand_convert.proofs.units_codes.Tie as tie
+
+to-codes-requires : tie.Need-to-codes-requires
+to-codes-requires c κs = search needs
+
+enum-known-n : tie.Need-enum-known-n
+enum-known-n c = search needs
+
+within : (c : tie.After-known-told) → c .before .n .given .0 .0 ≤ length (c .before .before .before .before .before .to-codes .last .1 .0)
+within c =
+    let t = c .before .before .before .before .before in
+    let a = t .before .before .before .before .before .args in
+    omega (arith, count-fits damaged utf16 codes (a .text .now) (a .between .now) (t .to-codes .ensures) (λ e. refl) (c .before .n .given .0 .0) (c .before .n .given .1), t .to-codes .kept .1 .0)
+
+slice-reshare-prefix-codes-as-units : tie.Need-slice-reshare-prefix-codes-as-units
+slice-reshare-prefix-codes-as-units c = within c
+
+slice-aggregate-codes-as-units : tie.Need-slice-aggregate-codes-as-units
+slice-aggregate-codes-as-units c = sym (length-take-le _ _ (within (c .before)))
+
+codes-as-units-requires : tie.Need-codes-as-units-requires
+codes-as-units-requires c κs = search needs
+
+enum-known-why : tie.Need-enum-known-why
+enum-known-why c = search needs
+
+due-units-requires : tie.Need-due-units-requires
+due-units-requires c κs = search needs
+
+same-length : tie.Need-same-length
+same-length c = search needs
+
+same-length-2 : tie.Need-same-length-2
+same-length-2 c = search needs
+
+returns : tie.Need-returns
+returns c =
+    let b = c .before .before in
+    let n = b .before .before .before .before in
+    let t = n .before .before .before .before in
+    let a = t .before .before .before .before .before .args in
+    round-granted damaged noScalar utf16 codes (a .text .now) (a .between .now) (t .to-codes .ensures) utf16-faithful codes-faithful (λ e. refl) (n .n .given .0 .0) (n .n .given .1)
+    (a .back .now) (b .codes-as-units .last .1 .1 .0) (b .codes-as-units .result) (b .codes-as-units .ensures)
+
+same-length-3 : tie.Need-same-length-3
+same-length-3 c = search needs
+
+returns-2 : tie.Need-returns-2
+returns-2 c =
+    let w = c .before .before in
+    let t = w .before .before .before .before in
+    let a = t .before .before .before .before .before .args in
+    round-refused damaged noScalar utf16 codes (a .text .now) (a .between .now) (t .to-codes .ensures) (λ e. refl) (a .back .now) (w .why .given .0 .0) (w .why .given .1)
+    (mostOf Units Codes (length (a .text .now))) (enough Units Codes (a .text .now)) (c .due-units .result) (c .due-units .ensures)
+
+pub units-codes-spec : {M : Type 1} → statement M
+units-codes-spec =
+    tie.close
+    (tie.spec
+    to-codes-requires
+    enum-known-n
+    slice-reshare-prefix-codes-as-units
+    slice-aggregate-codes-as-units
+    codes-as-units-requires
+    enum-known-why
+    due-units-requires
+    same-length
+    same-length-2
+    returns
+    same-length-3
+    returns-2)

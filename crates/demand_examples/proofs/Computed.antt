@@ -1,0 +1,37 @@
+-- THE MARKED EXAMPLES HOLD, by computation.
+-- Assumes nothing.
+use mathlib.Core.Path.{refl}
+use Rattle.theory.specs.Reader.{cutFrom, cut}
+use Rattle.utf8.specs.Bytes.{rows, bytes}
+use Rattle.utf16.specs.Units.{units}
+use Rattle.utf16.specs.Units as utf16
+use Rattle.demand_examples.specs.Marked.{Marked}
+
+pub marked : Marked
+unfolding cutFrom cut rows bytes utf16.rows units
+marked = record {
+  empty-checks = refl;
+  empty-checkpoint = refl;
+  euro = refl;
+  train = refl;
+  train-units = refl;
+  last-point = refl;
+  last-units = refl;
+  past-the-last = refl;
+  four-too-long = refl;
+  half = refl;
+  three-too-long = refl;
+  two-too-long = refl;
+  stopped = refl;
+  stopped-points = refl;
+  ended = refl;
+  repairs = refl;
+  repairs-points = refl;
+  unpaired = refl;
+  swapped = refl;
+  mixed-places = refl;
+  unit-inside = refl;
+  byte-inside = refl;
+  byte-past = refl;
+  line-past = refl;
+}

@@ -1,0 +1,82 @@
+-- Two answers of a lookup are compared by what they tell.
+-- Assumes nothing.
+use mathlib.Core.Path.{_≡_, refl, sym, ap, _∙_}
+use mathlib.Core.Logic.{_↔_}
+use Prim.Native.Nat.{ℕ}
+use mathlib.Core.Bool.{Bool, true, false, _&&_, true≢false}
+use mathlib.Core.List.{List, _∷_}
+use lib.ListN.{getD}
+use lib.Dec.{eqb}
+use borrow.Author.Tests.{eqb-true, eq-eqb}
+use Rattle.theory.proofs.Cases.{both}
+use Rattle.terms.specs.Told.{refusal}
+use Rattle.terms.specs.declared.Refusal.{Refusal}
+use Rattle.terms.proofs.ToldBack.{backRefusal, refusal-back, told-refusal, no-zero}
+use Rattle.place.specs.Lookup.{counts, placed}
+use Rattle.place.specs.declared.Place.{Place}
+use Rattle.place.specs.declared.Placed.{Placed}
+use Rattle.place.specs.declared.Placed.the-variants.{At, Refused}
+use Rattle.place.proofs.ToldBack.{told-counts, told-placed}
+use Rattle.index_audit.proofs.ComparedByNumbers.{same-sound, same-refl, same-places}
+
+-- ---- places by their counts, refusals by their number and values
+
+pub places-exactly : (p q : Place)
+    → (eqb (p .bytes) (q .bytes) && eqb (p .units) (q .units) && eqb (p .points) (q .points) && eqb (p .lines) (q .lines) ≡ true) ↔ (p ≡ q)
+places-exactly p q = (
+  (λ e. told-counts p q (same-sound (counts p) (counts q) (sym (same-places p q) ∙ e))),
+  (λ e. same-places p q ∙ rw e (same-refl (counts q))),
+)
+
+abbrev value : Refusal → ℕ → ℕ
+value a i = getD (refusal a) i 0
+
+told-values : (a b : Refusal) → value a 0 ≡ value b 0 → value a 1 ≡ value b 1 → value a 2 ≡ value b 2 → a ≡ b
+unfolding backRefusal
+told-values a b e f g =
+    let h : backRefusal (refusal a) ≡ backRefusal (refusal b) = rw (e, f, g) in
+    sym (refusal-back a) ∙ h ∙ refusal-back b
+
+pub refusals-exactly : (a b : Refusal) → (eqb (value a 0) (value b 0) && eqb (value a 1) (value b 1) && eqb (value a 2) (value b 2) ≡ true) ↔ (a ≡ b)
+refusals-exactly a b = (yes, no)
+  where
+    yes : eqb (value a 0) (value b 0) && eqb (value a 1) (value b 1) && eqb (value a 2) (value b 2) ≡ true → a ≡ b
+    yes e =
+        let l = both (eqb (value a 0) (value b 0) && eqb (value a 1) (value b 1)) (eqb (value a 2) (value b 2)) e in
+        let k = both (eqb (value a 0) (value b 0)) (eqb (value a 1) (value b 1)) (l .0) in
+        told-values a b (eqb-true (value a 0) (value b 0) (k .0)) (eqb-true (value a 1) (value b 1) (k .1)) (eqb-true (value a 2) (value b 2) (l .1))
+
+    no : a ≡ b → eqb (value a 0) (value b 0) && eqb (value a 1) (value b 1) && eqb (value a 2) (value b 2) ≡ true
+    no e = rw (e, eq-eqb (value b 0) (value b 0) refl, eq-eqb (value b 1) (value b 1) refl, eq-eqb (value b 2) (value b 2) refl)
+
+-- ---- answers by their cases
+
+module _ {a b : Placed} {r : Bool} where
+  pub both-places : {p q : Place} → a ≡ At p → b ≡ At q → (r ≡ true) ↔ (p ≡ q) → (r ≡ true) ↔ (a ≡ b)
+  both-places {p} {q} e f h = (
+    (λ t. e ∙ ap At (h .0 t) ∙ sym f),
+    (λ t.
+        let told : 0 ∷ counts p ≡ 0 ∷ counts q = ap placed (sym e ∙ t ∙ f) in
+        h .1 (told-counts p q (cc))),
+  )
+
+  pub both-refusals : {v w : Refusal} → a ≡ Refused v → b ≡ Refused w → (r ≡ true) ↔ (v ≡ w) → (r ≡ true) ↔ (a ≡ b)
+  both-refusals {v} {w} e f h = (
+    (λ t. e ∙ ap Refused (h .0 t) ∙ sym f),
+    (λ t. h .1 (told-refusal v w (ap placed (sym e ∙ t ∙ f)))),
+  )
+
+apart : {p : Place} {w : Refusal} → At p ≡ Refused w → ⊥
+apart {w = w} e = true≢false (ap (λ (a : Placed). eqb (getD (placed a) 0 0) 0) e ∙ no-zero w)
+
+module _ {a b : Placed} {p : Place} {w : Refusal} where
+  pub place-refusal : a ≡ At p → b ≡ Refused w → (false ≡ true) ↔ (a ≡ b)
+  place-refusal e f = ((λ t. absurd (true≢false (sym t))), (λ t. absurd (apart (sym e ∙ t ∙ f))))
+
+  pub refusal-place : a ≡ Refused w → b ≡ At p → (false ≡ true) ↔ (a ≡ b)
+  refusal-place e f = ((λ t. absurd (true≢false (sym t))), (λ t. absurd (apart (sym f ∙ sym t ∙ e))))
+
+-- ---- two that tell the same
+
+pub agree-told : {a b : Placed} {r : Bool} {l m : List ℕ} → (r ≡ true) ↔ (a ≡ b) → placed a ≡ l → l ≡ m → placed b ≡ m → r ≡ true
+agree-told {a} {b} h e f g = h .1 (told-placed a b (e ∙ f ∙ sym g))

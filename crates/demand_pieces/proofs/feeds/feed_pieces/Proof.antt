@@ -1,0 +1,63 @@
+-- `feeds::feed_pieces` meets its contract: start, and then the feeds and finish.
+-- Assumes nothing.
+use mathlib.Core.Path.{ap}
+use Rattle.demand_pieces.specs.Feeds.{given, pieces}
+use Rattle.demand_pieces.proofs.CallsOnTheWay.{ready-fresh, through-ready, through-refused}
+use borrow.Author.Needs.{needs}
+use Rattle.demand_pieces.proofs.feeds.feed_pieces.Statement.{statement}
+use Rattle.demand_pieces.proofs.feeds.feed_pieces.Tie as tie
+
+start-requires : tie.Need-start-requires
+start-requires c κs = search needs
+
+enum-told : tie.Need-enum-told
+enum-told c = search needs
+
+run-pieces-requires : tie.Need-run-pieces-requires
+run-pieces-requires c κs =
+    let e = c .before .before in
+    let s = e .before .before .before in
+    ready-fresh (s .before .before .before .before .before .args .room) (s .start .result) (s .start .ensures) (e .enum-told .given .1)
+
+enum-told-2 : tie.Need-enum-told-2
+enum-told-2 c = search needs
+
+nothing-requires : tie.Need-nothing-requires
+nothing-requires c κs = search needs
+
+same-length : tie.Need-same-length
+same-length c = search needs
+
+same-length-2 : tie.Need-same-length-2
+same-length-2 c = search needs
+
+returns : tie.Need-returns
+returns c =
+    let r = c .before .before .before .before in
+    let e = r .before .before .before in
+    let s = e .before .before .before in
+    let a = s .before .before .before .before .before .args in
+    through-ready (a .room) (s .start .result) (s .start .ensures) (a .text .now) (pieces (a .text .now) (a .cuts .now) (a .scant) (a .out .now))
+    (a .out .now) (a .list .now) _ (e .enum-told .given .1) (r .run-pieces .ensures)
+
+returns-2 : tie.Need-returns-2
+returns-2 c =
+    let e = c .before in
+    let s = e .before .before .before in
+    let a = s .before .before .before .before .before .args in
+    through-refused (a .room) (s .start .result) (s .start .ensures) (a .text .now) (pieces (a .text .now) (a .cuts .now) (a .scant) (a .out .now))
+    (a .out .now) (a .list .now) _ (e .enum-told2 .given .0 .0) (e .enum-told2 .given .1) (ap (λ x. given x (a .out .now) (a .list .now)) (c .nothing .ensures))
+
+pub feed-pieces-spec : {M : Type 1} → statement M
+feed-pieces-spec =
+    tie.close
+    (tie.spec
+    start-requires
+    enum-told
+    run-pieces-requires
+    enum-told-2
+    nothing-requires
+    same-length
+    same-length-2
+    returns
+    returns-2)

@@ -1,0 +1,2 @@
+pub mod CutsBetween
+pub mod EqualExactly

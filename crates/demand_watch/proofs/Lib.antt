@@ -1,0 +1,3 @@
+pub mod WatchedAsFed
+pub mod SameStates
+pub mod OneAnswer

@@ -1,5 +1,0 @@
-pub mod Counting
-pub mod Putting
-pub mod Passing
-pub mod Once
-pub mod Enough

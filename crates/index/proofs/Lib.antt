@@ -1,3 +1,0 @@
-pub mod Resuming
-pub mod Truth
-pub mod Nearness

@@ -1,0 +1,3 @@
+pub mod ComparedByNumbers
+pub mod CheckpointByCheckpoint
+pub mod YesToItsIndex

@@ -1,0 +1,13 @@
+pub mod CheckpointPassed
+pub mod StreamBehindWalk
+pub mod PlaceBySums
+pub mod LastPlaceBefore
+pub mod RunMarked
+pub mod WalkBehindRun
+pub mod GrantedOrRefused
+pub mod SeamAndPending
+pub mod BuiltAsPlain
+pub mod OneAnswer
+pub mod TestsAsFacts
+pub mod ChecksInOrder
+pub mod ToldBack

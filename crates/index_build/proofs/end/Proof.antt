@@ -1,0 +1,72 @@
+-- `end` meets its contract: checkpoint 0 is written, and what is pending is one segment.
+-- Assumes nothing.
+use mathlib.Core.Path.{_≡_, refl, sym, ap, _∙_}
+use lib.ListN.{length, length-map}
+use lib.Seq.{length-sets}
+use Rattle.terms.specs.Limits.{mostPending}
+use Rattle.index_build.proofs.TestsAsFacts.{Sound, sound-is}
+use Rattle.index_build.proofs.SeamAndPending.{end-none, end-ahead, end-some}
+use borrow.Author.Needs.{needs}
+use Rattle.index_build.proofs.end.Statement.{statement}
+use Rattle.index_build.proofs.end.Tie as tie
+
+-- an array has its length
+three : (c : tie.Start) → length (c .args .state .held) ≡ mostPending
+three c = sym (length-map (c .args .state .held) (λ v. v)) ∙ c .good .0 .1 .1 .0 .1 .0 .1
+
+passes : (c : tie.Start) → Sound (c .args .state)
+passes c = sound-is (c .args .state) (c .pre .tests)
+
+mark-start-requires : tie.Need-mark-start-requires
+mark-start-requires c κs = search needs
+
+same-length : tie.Need-same-length
+same-length c = search needs
+
+returns : tie.Need-returns
+returns c =
+    let m = c .before .before .before in
+    let z = m .before .before .before in
+    m .mark-start .ensures ∙ end-none (z .args .state) (z .args .row .now) (passes z) (three z) (c .if1 .taken)
+
+settled-requires : tie.Need-settled-requires
+settled-requires c κs = search needs
+
+array-read-advance : tie.Need-array-read-advance
+array-read-advance c = search needs
+
+advance-requires : tie.Need-advance-requires
+advance-requires c κs =
+    let p = c .before in
+    let e = p .before .before in
+    let m = e .before .before .before in
+    let z = m .before .before .before in
+    rw (p .settled .ensures)
+    (end-ahead (z .args .state) (z .args .row .now) (passes z) (three z) (e .if1 .left) _
+    (ap length (m .mark-start .ensures) ∙ simp length-sets) (z .pre))
+
+same-length-2 : tie.Need-same-length-2
+same-length-2 c = search needs
+
+returns-2 : tie.Need-returns-2
+returns-2 c =
+    let v = c .before .before in
+    let p = v .before .before in
+    let e = p .before .before in
+    let m = e .before .before .before in
+    let z = m .before .before .before in
+    end-some (z .args .state) (z .args .row .now) (passes z) (three z) (e .if1 .left)
+    (m .mark-start .ensures) refl (rw (p .settled .ensures) at (v .advance .ensures))
+
+pub end-spec : {M : Type 1} → statement M
+end-spec =
+    tie.close
+    (tie.spec
+    mark-start-requires
+    same-length
+    returns
+    settled-requires
+    array-read-advance
+    advance-requires
+    same-length-2
+    returns-2)

@@ -1,0 +1,217 @@
+// The builder of an index from a byte text that comes in pieces.
+use place::Place;
+ghost use mathlib.Core.Path.{_≡_};
+ghost use Prim.Native.Nat.{_+_, _≤_, _<_};
+ghost use lib.ListN.{length};
+ghost use Rattle.theory.specs.Index.{begun};
+ghost use Rattle.place.specs.Measures.{ruler};
+ghost use Rattle.place.specs.Lookup.{counts};
+ghost use Rattle.index_checkpoint.specs.Checkpoints.{spacing, width};
+ghost use Rattle.index_build.specs.Building.{ended, Feeds, Finishes};
+ghost use Rattle.index_build.specs.Steps.{Ahead, Advances, keeping, Walks, Walked, Seams, Closes, Granted, streamOf, joined, grown};
+ghost use Rattle.index_build.specs.Steps.{Stretches, Stretched};
+ghost use Rattle.index_build.specs.Runs.{Runs};
+
+mod state;
+
+pub use state::Builder;
+pub use state::Building;
+pub use state::Built;
+
+// Checkpoint 0, which every call writes: the start of the text.
+fn mark_start(row: &mut [u32])
+    requires { ⌜ width ≤ length (now row) ⌝ }
+    ensures { λ r. ⌜ now (row .exit) ≡ begun ruler counts width spacing (now (row .entry)) .row ⌝ }
+{
+    index_checkpoint::mark(row, 0, Place::start());
+}
+
+// The place behind a segment of so many bytes that begins with this one; the checkpoint due on the way is written.
+fn advance(p: Place, size: usize, head: u8, row: &mut [u32]) -> Place
+    requires { ⌜ Ahead p size (now row) ⌝ }
+    ensures { λ r. ⌜ Advances p size head (now (row .entry)) (now (row .exit)) r ⌝ }
+{
+    let q = Place {
+        bytes: p.bytes + size,
+        units: p.units + place::units_of(size),
+        points: p.points + 1,
+        lines: p.lines + place::lines_of(head),
+    };
+    index_checkpoint::pass(p, q, row);
+    q
+}
+
+// The state that keeps what is left behind a place.
+fn keep(left: &[u8], p: Place, taken: usize) -> Builder
+    ensures { λ r. ⌜ r ≡ keeping (now (left .entry)) p taken ⌝ }
+{
+    let held = utf8_pending::hold(left);
+    Builder {
+        held,
+        pending: left.len(),
+        taken,
+        units: p.units,
+        points: p.points,
+        lines: p.lines,
+    }
+}
+
+// Whole segments are walked over, from one checkpoint to the next.
+fn pass_run(text: &[u8], from: Place, row: &mut [u32]) -> Place
+    requires { ⌜ Runs from (now text) (now row) ⌝ }
+    ensures { λ r. ⌜ Walked (now (text .entry)) from (now (row .entry)) (now (row .exit)) r (length (now (text .entry))) ⌝ }
+{
+    let mut q = from;
+    let mut at: usize = 0;
+    loop {
+        let end = at + (index_checkpoint::SPACING - q.bytes % index_checkpoint::SPACING);
+        if text.len() < end {
+            return index_count::add_sums(q, &text[at..]);
+        }
+        q = index_count::add_sums(q, &text[at..end]);
+        index_checkpoint::mark(
+            row,
+            q.bytes / index_checkpoint::SPACING,
+            index_count::step_back(text, end, q),
+        );
+        at = end;
+    }
+}
+
+// At most so many settled segments are walked over, one by one.
+fn stretch(text: &[u8], from: Place, most: usize, row: &mut [u32]) -> Place
+    requires { ⌜ Stretches from (now text) most (now row) ⌝ }
+    ensures { λ r. ⌜ Stretched (now (text .entry)) from (now (row .entry)) (now (row .exit)) r ⌝ }
+{
+    let mut p = from;
+    let mut at: usize = 0;
+    let mut left = most;
+    while 0 < left {
+        let size = utf8_pending::settled_size(utf8::segment(&text[at..]));
+        if size == 0 {
+            return p;
+        }
+        p = advance(p, size, text[at], row);
+        at += size;
+        left -= 1;
+    }
+    p
+}
+
+// So many segments are read one by one behind a run of whole segments, before the next one is tried.
+const WAIT: usize = 8;
+
+// How many are read behind this run: twice as many as before where it was short, so that dense damage is not slowed.
+fn wait_behind(run: usize, wait: usize) -> usize
+    requires { ⌜ 0 < wait ⌝ }
+    ensures { λ r. ⌜ 0 < r ⌝ }
+{
+    if 32 <= run {
+        return WAIT;
+    }
+    if wait < 1024 {
+        return 2 * wait;
+    }
+    wait
+}
+
+// All that is settled of a text is walked over from a place on, and the rest is kept.
+fn walk(text: &[u8], from: Place, taken: usize, row: &mut [u32]) -> Builder
+    requires { ⌜ Walks from (now text) (now row) ⌝ }
+    ensures { λ r. ⌜ Closes taken (streamOf from (now (row .entry)) (now (text .entry))) (now (row .exit)) r ⌝ }
+{
+    let mut p = from;
+    let mut at: usize = 0;
+    let mut wait = WAIT;
+    loop {
+        let run = utf8_check::whole_run(&text[at..]);
+        let end = at + run;
+        p = pass_run(&text[at..end], p, row);
+        let q = stretch(&text[end..], p, wait, row);
+        if q.bytes == p.bytes {
+            return keep(&text[end..], q, taken);
+        }
+        p = q;
+        at = q.bytes - from.bytes;
+        wait = wait_behind(run, wait);
+    }
+}
+
+// A piece is taken behind what is pending: their seam tells whether anything is settled yet.
+fn join(seam: &[u8], state: Builder, piece: &[u8], row: &mut [u32]) -> Builder
+    requires { ⌜ Seams state (now piece) (now seam) (now row) ⌝ }
+    ensures { λ r. ⌜ Closes (state .taken + length (now (piece .entry))) (joined state (now (row .entry)) (now (piece .entry)))
+        (now (row .exit)) r ⌝ }
+{
+    let taken = state.taken + piece.len();
+    let p = state.settled();
+    let size = utf8_pending::settled_size(utf8::segment(seam));
+    if size == 0 {
+        return keep(seam, p, taken);
+    }
+    let q = advance(p, size, seam[0], row);
+    let from = size - state.pending;
+    walk(&piece[from..], q, taken, row)
+}
+
+// A state that may take a piece takes it.
+fn take(state: Builder, piece: &[u8], row: &mut [u32]) -> Builder
+    requires { ⌜ Granted state (length (now piece)) (now row) ⌝ }
+    ensures { λ r. ⌜ grown state (now (piece .entry)) (now (row .entry)) (now (row .exit)) r ⌝ }
+{
+    mark_start(row);
+    let held = state.held;
+    let seam = utf8_pending::seam_of(held, state.pending, piece);
+    let bytes = seam.bytes;
+    let n = seam.size;
+    join(&bytes[..n], state, piece, row)
+}
+
+// A state that may end settles its pending bytes, one segment if there are any.
+fn end(state: Builder, row: &mut [u32])
+    requires { ⌜ Granted state 0 (now row) ⌝ }
+    ensures { λ r. ⌜ now (row .exit) ≡ ended state (now (row .entry)) .row ⌝ }
+{
+    mark_start(row);
+    let n = state.pending;
+    if n == 0 {
+        return;
+    }
+    let held = state.held;
+    advance(state.settled(), n, held[0], row);
+}
+
+// Takes a piece: the checkpoints up to the last place that is settled are written.
+pub fn feed(state: Builder, piece: &[u8], row: &mut [u32]) -> Built
+    ensures { λ r. ⌜ Feeds state (now (piece .entry)) (now (row .entry)) (now (row .exit)) r ⌝ }
+{
+    match crate::state::check(state, piece.len(), row.len()) {
+        Building::Done => Built {
+            answer: Building::Done,
+            state: take(state, piece, row),
+        },
+        Building::Refused(why) => Built {
+            answer: Building::Refused(why),
+            state,
+        },
+    }
+}
+
+// Ends the text: the pending bytes are settled, and the state is fresh again.
+pub fn finish(state: Builder, row: &mut [u32]) -> Built
+    ensures { λ r. ⌜ Finishes state (now (row .entry)) (now (row .exit)) r ⌝ }
+{
+    match crate::state::check(state, 0, row.len()) {
+        Building::Done => {
+            end(state, row);
+            Built {
+                answer: Building::Done,
+                state: Builder::fresh(),
+            }
+        }
+        Building::Refused(why) => Built {
+            answer: Building::Refused(why),
+            state,
+        },
+    }
+}

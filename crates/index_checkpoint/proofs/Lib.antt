@@ -1,0 +1,4 @@
+pub mod ReadBack
+pub mod MiddleReached
+pub mod UsableByTests
+pub mod FourWritten

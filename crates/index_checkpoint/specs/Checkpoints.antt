@@ -1,0 +1,33 @@
+-- Checkpoints: four 32-bit numbers each, one at each multiple of 256 bytes.
+-- Assumes nothing.
+use Prim.Native.Nat.{ℕ, _*_}
+use mathlib.Core.List.{List}
+use lib.ListN.{getD}
+use Rattle.theory.specs.Tally.{written}
+use Rattle.theory.specs.Index.{entry, marks, index}
+use Rattle.place.specs.Measures.{place, ruler, reader}
+use Rattle.place.specs.Lookup.{counts}
+use Rattle.place.specs.declared.Place.{Place}
+
+abbrev pub spacing : ℕ
+spacing = 256
+
+-- the numbers that a checkpoint takes in the index: its four counts
+abbrev pub width : ℕ
+width = 4
+
+-- how many numbers the index of a text of so many bytes has
+abbrev pub needed : ℕ → ℕ
+needed n = width * marks spacing n
+
+-- a place from its four numbers
+abbrev pub placeOf : List ℕ → Place
+placeOf l = place (getD l 0 0) (getD l 1 0) (getD l 2 0) (getD l 3 0)
+
+-- THE INDEX OF A TEXT: checkpoint k is the last place at or before byte 256 × k
+abbrev pub indexOf : List ℕ → List ℕ
+indexOf text = written counts (index reader ruler spacing text)
+
+-- checkpoint k, as an index has it
+abbrev pub checkpoint : List ℕ → ℕ → Place
+checkpoint row = entry width placeOf row

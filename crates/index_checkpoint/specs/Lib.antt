@@ -1,0 +1,3 @@
+pub mod Checkpoints
+pub mod Choosing
+pub mod Marks

@@ -1,0 +1,3 @@
+pub mod FromCheckpoint
+pub mod AnswersAsPlain
+pub mod EndsNear

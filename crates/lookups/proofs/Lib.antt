@@ -1,2 +1,0 @@
-pub mod LookingUp
-pub mod Auditing

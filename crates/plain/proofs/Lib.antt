@@ -1,4 +1,0 @@
-pub mod Mapping
-pub mod Squeezing
-pub mod Blocks
-pub mod Once

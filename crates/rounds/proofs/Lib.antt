@@ -1,4 +1,0 @@
-pub mod Due
-pub mod Returning
-pub mod Rounds
-pub mod Once

@@ -1,4 +1,0 @@
-pub mod Spanning
-pub mod Reading
-pub mod Walking
-pub mod Once

@@ -1,3 +1,0 @@
-pub mod Testing
-pub mod Admitting
-pub mod Telling

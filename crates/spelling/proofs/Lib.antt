@@ -1,4 +1,0 @@
-pub mod Spelling
-pub mod Wholes
-pub mod Striding
-pub mod Answering

@@ -1,4 +1,0 @@
-pub mod Telling
-pub mod Saying
-pub mod Wrapping
-pub mod Once

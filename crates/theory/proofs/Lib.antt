@@ -1,0 +1,15 @@
+pub mod Cases
+pub mod Divisions
+pub mod PieceMore
+pub mod AnyCalls
+pub mod TalliesAdd
+pub mod Rows
+pub mod PlacesFound
+pub mod TrueIndexAnswers
+pub mod BuiltIsTrue
+pub mod TableDivides
+pub mod OneDivision
+pub mod SequencesAreWhole
+pub mod PendingBegins
+pub mod AcceptsWellFormed
+pub mod TableReads

@@ -1,0 +1,151 @@
+-- The laws of a reader by a table, for any table: it is a division, holds little back, and its damage is short.
+-- Assumes nothing.
+use mathlib.Core.Path.{_≡_, refl, ap}
+use Prim.Native.Nat.{ℕ, zero, suc, _≤_, _<_, max, suc-le-suc}
+use native.Mathlib.Nat.{le-trans}
+use mathlib.Core.Bool.{Bool, true, false, _&&_, true≢false}
+use mathlib.Core.List.{List, [], _∷_, _++_}
+use mathlib.Core.Option.{none, some}
+use lib.ListN.{length, drop, getD, drop-of-length-le}
+use lib.Seq.{drop-cons}
+use lib.Dec.{leb}
+use borrow.Author.Tests.{leb-true, le-leb, lt-leb}
+use native.Mathlib.Omega.{arith}
+use Rattle.theory.specs.Reader.{Look}
+use Rattle.theory.specs.Table.{Range, within, Row, Kind, damage, isDamage, longer, want, begun, lone, read}
+use Rattle.theory.proofs.Cases.{split, both, All}
+use Rattle.theory.proofs.Divisions.{Division, Holds}
+
+-- ---- an element and a range
+
+pub in-range : (r : Range) (x : ℕ) → within r x ≡ true → (r .low ≤ x) × (x ≤ r .high)
+in-range r x e = let p = both (leb (r .low) x) (leb x (r .high)) e in (leb-true _ _ (p .0), leb-true _ _ (p .1))
+
+pub in-yes : (r : Range) (x : ℕ) → r .low ≤ x → x ≤ r .high → within r x ≡ true
+in-yes r x a b = rw (le-leb (r .low) x a, le-leb x (r .high) b)
+
+pub in-under : (r : Range) (x : ℕ) → x < r .low → within r x ≡ false
+in-under r x a = rw (lt-leb (r .low) x a)
+
+pub in-over : (r : Range) (x : ℕ) → r .high < x → within r x ≡ false
+in-over r x a = rw (lt-leb x (r .high) a) (and-false (leb (r .low) x))
+  where
+    and-false : (a : Bool) → a && false ≡ false
+    and-false true = refl
+    and-false false = refl
+
+-- ---- a begun sequence
+
+pub want-fits : (rs : List Range) (xs : List ℕ) → want rs xs .more ≤ length xs
+want-fits [] xs = omega arith
+want-fits (r ∷ rs) [] = omega arith
+want-fits (r ∷ rs) (x ∷ xs) = split (within r x) (λ e. rw e (suc-le-suc (want-fits rs xs))) (λ e. rw e (omega arith))
+
+want-top : (rs : List Range) (xs : List ℕ) → want rs xs .more ≤ length rs
+want-top [] xs = omega arith
+want-top (r ∷ rs) [] = omega arith
+want-top (r ∷ rs) (x ∷ xs) = split (within r x) (λ e. rw e (suc-le-suc (want-top rs xs))) (λ e. rw e (omega arith))
+
+want-stable : (rs : List Range) (xs ys : List ℕ) → want rs xs .sure ≡ true → want rs (xs ++ ys) ≡ want rs xs
+want-stable [] xs ys s = refl
+want-stable (r ∷ rs) [] ys s = cc
+want-stable (r ∷ rs) (x ∷ xs) ys s = split (within r x) (λ e. rw e (ap longer (want-stable rs xs ys (rw e at s)))) (λ e. rw e)
+
+want-short : (rs : List Range) (xs : List ℕ) → want rs xs .sure ≡ false → suc (length xs) ≤ length rs
+want-short [] xs s = absurd (true≢false s)
+want-short (r ∷ rs) [] s = omega arith
+want-short (r ∷ rs) (x ∷ xs) s = split (within r x) (λ e. suc-le-suc (want-short rs xs (rw e at s))) (λ e. absurd (true≢false (rw e at s)))
+
+want-grows : (rs : List Range) (xs ys : List ℕ) → want rs xs .sure ≡ false → length xs ≤ want rs (xs ++ ys) .more
+want-grows [] xs ys s = absurd (true≢false s)
+want-grows (r ∷ rs) [] ys s = omega arith
+want-grows (r ∷ rs) (x ∷ xs) ys s = split (within r x) (λ e. rw e (suc-le-suc (want-grows rs xs ys (rw e at s)))) (λ e. absurd (true≢false (rw e at s)))
+
+want-damage : (rs : List Range) (xs : List ℕ) → isDamage (want rs xs .tag) ≡ true → suc (want rs xs .more) ≤ length rs
+want-damage [] xs s = absurd (true≢false (cc))
+want-damage (r ∷ rs) [] s = omega arith
+want-damage (r ∷ rs) (x ∷ xs) s = split (within r x) (λ e. rw e (suc-le-suc (want-damage rs xs (rw e at s)))) (λ e. rw e (omega arith))
+
+-- a whole segment is sure
+want-whole : (rs : List Range) (xs : List ℕ) → isDamage (want rs xs .tag) ≡ false → want rs xs .sure ≡ true
+want-whole [] xs s = refl
+want-whole (r ∷ rs) [] s = absurd (true≢false s)
+want-whole (r ∷ rs) (x ∷ xs) s = split (within r x) (λ e. rw e (want-whole rs xs (rw e at s))) (λ e. rw e)
+
+-- ---- and the reader, from them
+
+-- the most that a row wants behind its first element
+abbrev pub widest : List Row → ℕ
+widest [] = zero
+widest (w ∷ ws) = max (length (w .later)) (widest ws)
+
+-- what holds of a lone element and of each row's sequences holds of what is read
+pub read-case : (Q : Look Kind → Type 0) (rows : List Row) (x : ℕ) (xs : List ℕ) → Q lone
+    → ((rs : List Range) → length rs ≤ widest rows → Q (want rs xs)) → Q (read rows x xs)
+read-case Q [] x xs q f = q
+read-case Q (w ∷ ws) x xs q f = split (within (w .lead) x)
+    (λ e. rw e (f (w .later) (omega arith)))
+    (λ e. rw e (read-case Q ws x xs q (λ rs h. f rs (omega arith))))
+
+-- what holds of every row's sequences as the text goes on holds of what is read
+read-stable : (rows : List Row) (x : ℕ) (xs ys : List ℕ) → read rows x xs .sure ≡ true → read rows x (xs ++ ys) ≡ read rows x xs
+read-stable [] x xs ys s = refl
+read-stable (w ∷ ws) x xs ys s = split (within (w .lead) x)
+    (λ e. rw e (want-stable (w .later) xs ys (rw e at s)))
+    (λ e. rw e (read-stable ws x xs ys (rw e at s)))
+
+read-grows : (rows : List Row) (x : ℕ) (xs ys : List ℕ) → read rows x xs .sure ≡ false → length xs ≤ read rows x (xs ++ ys) .more
+read-grows [] x xs ys s = absurd (true≢false s)
+read-grows (w ∷ ws) x xs ys s = split (within (w .lead) x)
+    (λ e. rw e (want-grows (w .later) xs ys (rw e at s)))
+    (λ e. rw e (read-grows ws x xs ys (rw e at s)))
+
+module _ (rows : List Row) where
+  -- A READER BY A TABLE IS A DIVISION
+  pub table-division : Division (read rows)
+  table-division = record {
+    fits = λ x xs. read-case (λ l. l .more ≤ length xs) rows x xs (omega arith) (λ rs h. want-fits rs xs);
+    stable = read-stable rows;
+  }
+
+  pub table-holds : Holds (read rows) (widest rows)
+  table-holds = record {
+    short = λ x xs. read-case (λ l. l .sure ≡ false → suc (length xs) ≤ widest rows) rows x xs (λ s. absurd (true≢false s)) (λ rs h s. le-trans (want-short rs xs s) h);
+    grows = read-grows rows;
+  }
+
+  -- a segment has at most one element more than a row wants behind its first
+  pub table-top : (x : ℕ) (xs : List ℕ) → read rows x xs .more ≤ widest rows
+  table-top x xs = read-case (λ l. l .more ≤ widest rows) rows x xs (omega arith) (λ rs h. le-trans (want-top rs xs) h)
+
+  -- and damage has at most as many as that
+  pub table-damage : 1 ≤ widest rows → (x : ℕ) (xs : List ℕ) → isDamage (read rows x xs .tag) ≡ true → suc (read rows x xs .more) ≤ widest rows
+  table-damage w x xs =
+      read-case (λ l. isDamage (l .tag) ≡ true → suc (l .more) ≤ widest rows) rows x xs (λ s. w) (λ rs h s. le-trans (want-damage rs xs s) h)
+
+  pub table-whole : (x : ℕ) (xs : List ℕ) → isDamage (read rows x xs .tag) ≡ false → read rows x xs .sure ≡ true
+  table-whole x xs = read-case (λ l. isDamage (l .tag) ≡ false → l .sure ≡ true) rows x xs (λ s. refl) (λ rs h. want-whole rs xs)
+
+-- ---- the row of an element: those in front of it have smaller leads, and those behind it greater ones
+
+pub begun-row : (pre : List Row) (w : Row) (post : List Row) (x : ℕ) → All (λ v. v .lead .high < x) pre → w .lead .low ≤ x → x ≤ w .lead .high
+    → begun (pre ++ w ∷ post) x ≡ some (w .later)
+begun-row [] w post x a l h = rw (in-yes (w .lead) x l h)
+begun-row (v ∷ pre) w post x a l h = rw (in-over (v .lead) x (a .0)) (begun-row pre w post x (a .1) l h)
+
+pub begun-none : (pre post : List Row) (x : ℕ) → All (λ v. v .lead .high < x) pre → All (λ v. x < v .lead .low) post → begun (pre ++ post) x ≡ none
+begun-none [] [] x a b = refl
+begun-none [] (v ∷ post) x a b = rw (in-under (v .lead) x (b .0)) (begun-none [] post x a (b .1))
+begun-none (v ∷ pre) post x a b = rw (in-over (v .lead) x (a .0)) (begun-none pre post x (a .1) b)
+
+-- ---- a begun sequence that comes to the element at n of a text
+
+module _ (r : Range) (rs : List Range) (text : List ℕ) (n : ℕ) where
+  pub want-ended : length text ≤ n → want (r ∷ rs) (drop n text) ≡ record { more = zero; tag = damage; sure = false }
+  want-ended h = rw (drop-of-length-le text h)
+
+  pub want-stopped : n < length text → within r (getD text n 0) ≡ false → want (r ∷ rs) (drop n text) ≡ lone
+  want-stopped h e = rw (drop-cons text n 0 h, e)
+
+  pub want-next : n < length text → within r (getD text n 0) ≡ true → want (r ∷ rs) (drop n text) ≡ longer (want rs (drop (suc n) text))
+  want-next h e = rw (drop-cons text n 0 h, e)

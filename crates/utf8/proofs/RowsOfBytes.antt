@@ -1,0 +1,76 @@
+-- The rows of the byte table: which of them a byte begins, and the laws of a division that follow for byte texts.
+-- Assumes nothing.
+use mathlib.Core.Path.{_≡_, refl, sym, _∙_}
+use Prim.Native.Nat.{ℕ, zero, suc, _≤_, _<_}
+use mathlib.Core.Bool.{true, false}
+use mathlib.Core.List.{List, _∷_, _++_}
+use mathlib.Core.Option.{some, none}
+use lib.ListN.{length, getD, take, drop}
+use native.Mathlib.Omega.{arith}
+use Rattle.theory.specs.Table.{Row, isDamage, want, begun}
+use Rattle.theory.specs.Sequence.{Reads}
+use Rattle.theory.proofs.Cases.{All}
+use Rattle.theory.proofs.Divisions.{Division, Holds}
+use Rattle.theory.proofs.TableDivides.{begun-row, begun-none, table-division, table-holds, table-top, table-damage, table-whole}
+use Rattle.theory.proofs.OneDivision.{Sound, is-sound}
+use Rattle.theory.proofs.TableReads.{table-reads}
+use Rattle.terms.specs.Limits.{mostPending, mostDamaged}
+use Rattle.terms.specs.Told.{first, lookSays, firstSays}
+use Rattle.terms.specs.declared.First.the-variants.{Damage}
+use Rattle.terms.proofs.WalkBySegments.{says-look}
+use Rattle.utf8.specs.Bytes.{rows, bytes}
+use Rattle.utf8.specs.Lead.{ranges, wanted}
+use Rattle.utf8.specs.declared.Lead.{Lead}
+use Rattle.utf8.specs.declared.Lead.the-variants.{Alone, Begins}
+
+-- a byte begins row k
+pub at-row : (k : ℕ) (w : Row) → rows ≡ take k rows ++ w ∷ drop (suc k) rows → (x : ℕ)
+    → All (λ v. v .lead .high < x) (take k rows) × (w .lead .low ≤ x) × (x ≤ w .lead .high) → begun rows x ≡ some (w .later)
+at-row k w e x m = rw e (begun-row (take k rows) w (drop (suc k) rows) x (m .0) (m .1) (m .2))
+
+-- a byte lies between the rows before k and the others
+pub at-none : (k : ℕ) → rows ≡ take k rows ++ drop k rows → (x : ℕ)
+    → All (λ v. v .lead .high < x) (take k rows) × All (λ v. x < v .lead .low) (drop k rows) → begun rows x ≡ none
+at-none k e x m = rw e (begun-none (take k rows) (drop k rows) x (m .0) (m .1))
+
+-- what the reader tells of a text, from what its first byte begins
+module _ (text : List ℕ) (some-there : 0 < length text) (r : Lead) (b : begun rows (getD text 0 0) ≡ wanted r) where
+  pub first-alone : r ≡ Alone → first (Damage 1) ≡ firstSays bytes text
+  unfolding bytes
+  first-alone e = sym (says-look bytes text some-there ∙ rw (b, e))
+
+  pub first-begun : (more low high : ℕ) → r ≡ Begins more low high → firstSays bytes text ≡ lookSays (want (ranges more low high) (drop 1 text))
+  unfolding bytes
+  first-begun more low high e = says-look bytes text some-there ∙ rw (b, e)
+
+-- ---- byte texts are a division; at most 3 bytes are held back, and damage has 1 to 3
+
+pub bytes-division : Division bytes
+unfolding bytes
+bytes-division = table-division rows
+
+pub bytes-hold : Holds bytes mostPending
+unfolding bytes rows
+bytes-hold = table-holds rows
+
+pub bytes-top : (x : ℕ) (xs : List ℕ) → bytes x xs .more ≤ 3
+unfolding bytes rows
+bytes-top = table-top rows
+
+pub damage-short : (x : ℕ) (xs : List ℕ) → isDamage (bytes x xs .tag) ≡ true → suc (bytes x xs .more) ≤ mostDamaged
+unfolding bytes rows
+damage-short = table-damage rows (omega arith)
+
+pub whole-sure : (x : ℕ) (xs : List ℕ) → isDamage (bytes x xs .tag) ≡ false → bytes x xs .sure ≡ true
+unfolding bytes
+whole-sure = table-whole rows
+
+-- ---- THE PAPER'S WORDS hold of this reader
+
+pub rows-sound : Sound zero rows
+unfolding rows
+rows-sound = is-sound zero rows refl
+
+pub bytes-read : Reads rows bytes
+unfolding bytes
+bytes-read = table-reads rows rows-sound

@@ -1,0 +1,2 @@
+pub mod RunDivides
+pub mod StandingIsWhole

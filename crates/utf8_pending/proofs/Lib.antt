@@ -1,0 +1,3 @@
+pub mod SettledFirst
+pub mod SeamIsFirst
+pub mod HeldInPlaces

@@ -1,0 +1,47 @@
+-- The bytes that are pending between two pieces: their test, the seam with the next piece, and what of a text is settled first.
+-- Assumes nothing.
+use mathlib.Core.Path.{_≡_}
+use Prim.Native.Nat.{ℕ}
+use mathlib.Core.Bool.{Bool, cond, _&&_}
+use mathlib.Core.List.{List, [], _∷_, _++_}
+use lib.ListN.{length, take, drop}
+use lib.Dec.{leb}
+use Rattle.theory.specs.Reader.{Segment, first, pending}
+use Rattle.theory.specs.Table.{Kind}
+use Rattle.terms.specs.Limits.{mostPending}
+use Rattle.terms.specs.declared.First.{First}
+use Rattle.terms.specs.declared.First.the-variants.{Nothing, Whole, Damage, Begun}
+use Rattle.utf8.specs.Bytes.{bytes}
+use Rattle.utf8.specs.Pending.{zeros}
+use Rattle.utf8_pending.specs.declared.Seam.{Seam}
+
+-- the segment that stands first in a text, if it is settled
+unfoldable pub settled : List ℕ → List (Segment Kind)
+settled [] = []
+settled (x ∷ xs) = cond (bytes x xs .sure) (first bytes x xs ∷ []) []
+
+-- how many bytes of a text are settled by what the reader told of it
+abbrev pub settledSize : First → ℕ
+settledSize Nothing = 0
+settledSize (Whole n) = n
+settledSize (Damage n) = n
+settledSize (Begun n) = 0
+
+-- THE TEST OF n PENDING BYTES: at most 3, empty or a proper beginning of a well-formed sequence, and unused ones 0
+abbrev pub isTail : List ℕ → ℕ → Bool
+isTail held n = leb n mostPending && pending bytes (take n held) && zeros (drop n held)
+
+-- THE SEAM: the first four bytes of what is pending and a piece behind it, or all of them, in four places; unused ones are 0
+abbrev pub four : List ℕ → List ℕ → List ℕ
+four tail piece = take 4 (tail ++ piece)
+
+abbrev pub seamOf : List ℕ → ℕ → List ℕ → Seam
+seamOf held n piece = record {
+  bytes = take 4 (four (take n held) piece ++ 0 ∷ 0 ∷ 0 ∷ 0 ∷ []);
+  size = length (four (take n held) piece);
+}
+
+-- a run stands at the start of an output, and was counted
+pub record Fills (run out out′ : List ℕ) (n : ℕ) : Type 0 where
+  pub long : n ≡ length run
+  pub output : out′ ≡ run ++ drop (length run) out

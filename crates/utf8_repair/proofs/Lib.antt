@@ -1,0 +1,3 @@
+pub mod RunsCopied
+pub mod FirstByteTells
+pub mod UndamagedStays

@@ -1,0 +1,184 @@
+// A whole byte text repaired into bytes, into a lent output.
+use convert_point::Target;
+use terms::Decoder;
+use terms::Refusal;
+use terms::Written;
+ghost use mathlib.Core.Path.{_≡_};
+ghost use mathlib.Core.Bool.{cond};
+ghost use mathlib.Core.List.{_++_};
+ghost use Prim.Native.Nat.{_≤_, _<_};
+ghost use lib.ListN.{length, take, drop};
+ghost use lib.Dec.{ltb};
+ghost use Rattle.terms.specs.Limits.{limit};
+ghost use Rattle.terms.specs.Form.{repaired, converted};
+ghost use Rattle.terms.specs.Writing.{Writes, roomed, repairSays};
+ghost use Rattle.utf8_check.specs.Run.{wholeRun};
+ghost use Rattle.utf8.specs.Scalar.{utf8};
+ghost use Rattle.convert_point.specs.Puts.{Puts};
+ghost use Rattle.convert_point.specs.Passes.{PassesTo};
+ghost use Rattle.utf8_repair.specs.Calm.{calmBehind};
+
+// The whole segments at the start of a text that is calm; else none of them.
+pub fn run_of(text: &[u8], calm: usize) -> usize
+    ensures { λ r. ⌜ r ≡ cond (ltb calm 8) 0 (wholeRun (now (text .entry))) ⌝ }
+{
+    if calm < 8 {
+        return 0;
+    }
+    utf8_check::whole_run(text)
+}
+
+// How calm a text is behind one segment more: a long run in front of it is calm, and a U+FFFD undoes five others.
+pub fn calm_behind(calm: usize, run: usize, number: u32) -> usize
+    ensures { λ r. ⌜ r ≡ calmBehind calm run number ⌝ }
+{
+    if 16 <= run {
+        return 10;
+    }
+    if number != 0xFFFD {
+        if calm < 8 {
+            return calm + 1;
+        }
+        return calm;
+    }
+    if calm < 5 { 0 } else { calm - 5 }
+}
+
+// How many bytes the repaired form has: runs of whole segments are counted at once.
+fn need_bytes(text: &[u8]) -> usize
+    requires { ⌜ length (now text) ≤ limit ⌝ }
+    ensures { λ r. ⌜ r ≡ length (converted utf8 utf8 (now (text .entry))) ⌝ }
+{
+    let mut at: usize = 0;
+    let mut total: usize = 0;
+    let mut calm: usize = 8;
+    loop {
+        let run = run_of(&text[at..], calm);
+        total += run;
+        at += run;
+        if text.len() <= at {
+            return total;
+        }
+        let p = utf8::point(&text[at..]);
+        total += convert_point::bytes_of(p.number);
+        at += p.size;
+        calm = calm_behind(calm, run, p.number);
+    }
+}
+
+// How far one segment led: so many bytes are passed over, so many written, and so calm is the text behind it.
+pub struct Mended {
+    pub passed: usize,
+    pub put: usize,
+    pub calm: usize,
+}
+
+// One segment: a first byte below C2 tells by itself what stands there.
+fn mend(text: &[u8], calm: usize, run: usize, out: &mut [u8]) -> Mended
+    requires { ⌜ (0 < length (now text)) × (length (converted utf8 utf8 (now text)) ≤ length (now out)) ⌝ }
+    ensures { λ r. ⌜ PassesTo utf8 utf8 (now (text .entry)) (now (out .entry)) (now (out .exit)) (r .passed) (r .put) ⌝ }
+{
+    let a = text[0];
+    if a < 0x80 {
+        out[0] = a;
+        return Mended {
+            passed: 1,
+            put: 1,
+            calm: calm_behind(calm, run, 0),
+        };
+    }
+    if a < 0xC2 {
+        out[0] = 0xEF;
+        out[1] = 0xBF;
+        out[2] = 0xBD;
+        return Mended {
+            passed: 1,
+            put: 3,
+            calm: calm_behind(calm, run, 0xFFFD),
+        };
+    }
+    let p = utf8::point(text);
+    let put = convert_point::put_bytes(out, p.number);
+    Mended {
+        passed: p.size,
+        put,
+        calm: calm_behind(calm, run, p.number),
+    }
+}
+
+// A run that is none is not copied.
+fn copy_run(run: &[u8], out: &mut [u8])
+    ensures { λ r. ⌜ now (out .exit)
+        ≡ take (length (now (out .entry))) (now (run .entry)) ++ drop (length (now (run .entry))) (now (out .entry)) ⌝ }
+{
+    if run.len() == 0 {
+        return;
+    }
+    copy::copy(run, out);
+}
+
+// Runs of whole segments are copied at once.
+fn write_bytes(text: &[u8], out: &mut [u8]) -> usize
+    requires { ⌜ length (converted utf8 utf8 (now text)) ≤ length (now out) ⌝ }
+    ensures { λ r. ⌜ Puts (converted utf8 utf8 (now (text .entry))) (now (out .entry)) (now (out .exit)) r ⌝ }
+{
+    let mut at: usize = 0;
+    let mut done: usize = 0;
+    let mut calm: usize = 8;
+    loop {
+        let run = run_of(&text[at..], calm);
+        let end = at + run;
+        copy_run(&text[at..end], &mut out[done..]);
+        done += run;
+        at = end;
+        if text.len() <= at {
+            return done;
+        }
+        let m = mend(&text[at..], calm, run, &mut out[done..]);
+        at += m.passed;
+        done += m.put;
+        calm = m.calm;
+    }
+}
+
+// A text with no damage stays as it is.
+fn repair_whole(text: &[u8], out: &mut [u8]) -> Written
+    ensures { λ r. ⌜ Writes
+        (roomed (length (now (out .entry))) (now (text .entry)))
+        (now (text .entry))
+        (now (out .entry))
+        (now (out .exit))
+        r ⌝ }
+{
+    let bytes = text.len();
+    if out.len() < bytes {
+        return Written::Refused(Refusal::NoRoom { needed: bytes });
+    }
+    copy::copy(text, out);
+    Written::Count(bytes)
+}
+
+// Whole segments as they are, U+FFFD for each damage.
+pub fn repair(text: &[u8], out: &mut [u8]) -> Written
+    ensures { λ r. ⌜ Writes
+        (repairSays (length (now (out .entry))) (now (text .entry)) (repaired utf8 (now (text .entry))))
+        (repaired utf8 (now (text .entry)))
+        (now (out .entry))
+        (now (out .exit))
+        r ⌝ }
+{
+    if Decoder::LIMIT < text.len() {
+        return Written::Refused(Refusal::OverLimit);
+    }
+    if convert_point::most(Target::Bytes, Target::Bytes, text.len()) <= out.len() {
+        return Written::Count(write_bytes(text, out));
+    }
+    if utf8_check::whole_run(text) == text.len() {
+        return repair_whole(text, out);
+    }
+    let bytes = need_bytes(text);
+    if out.len() < bytes {
+        return Written::Refused(Refusal::NoRoom { needed: bytes });
+    }
+    Written::Count(write_bytes(text, out))
+}

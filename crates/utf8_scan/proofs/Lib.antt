@@ -1,0 +1,4 @@
+pub mod LaneTests
+pub mod StandMore
+pub mod OnwardByBytes
+pub mod AskedByThree

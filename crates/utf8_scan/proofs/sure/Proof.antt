@@ -1,0 +1,55 @@
+-- `sure` meets its contract: bytes below 80 stand well, and the blocks go on behind them.
+-- Assumes nothing.
+use mathlib.Core.Path.{subst}
+use native.Mathlib.Omega.{arith}
+use borrow.Author.Needs.{needs}
+use borrow.Author.Tests.{not-false}
+use Rattle.utf8_scan.specs.Blocks.{Good}
+use Rattle.utf8_scan.proofs.StandMore.{good-none, good-plain}
+use Rattle.utf8_scan.proofs.sure.Statement.{statement}
+use Rattle.utf8_scan.proofs.sure.Tie as tie
+
+returns : tie.Need-returns
+returns c = good-none _
+
+plain-all-requires : tie.Need-plain-all-requires
+plain-all-requires c κs = search needs
+
+-- as far as no byte is 80 or more
+plain-good : (c : tie.After-plain-all) → Good (c .before .before .before .args .text .now) (c .plain-all .result)
+plain-good c = good-plain _ _ (c .plain-all .ensures .0) (c .plain-all .ensures .1)
+
+returns-2 : tie.Need-returns-2
+returns-2 c = subst (Good _) (c .if2 .taken) (plain-good (c .before))
+
+shrinking-requires : tie.Need-shrinking-requires
+shrinking-requires c κs = (c .if3 .taken, plain-good (c .before .before), c .before .before .before .if1 .left)
+
+returns-3 : tie.Need-returns-3
+returns-3 c = search needs
+
+right-first-requires : tie.Need-right-first-requires
+right-first-requires c κs = search needs
+
+returns-4 : tie.Need-returns-4
+returns-4 c = good-none _
+
+shrinking-requires-2 : tie.Need-shrinking-requires-2
+shrinking-requires-2 c κs = (omega arith, c .before .right-first .ensures (not-false _ (c .if4 .left)), c .before .before .before .before .before .if1 .left)
+
+returns-5 : tie.Need-returns-5
+returns-5 c = search needs
+
+pub sure-spec : {M : Type 1} → statement M
+sure-spec =
+    tie.close
+    (tie.spec
+    returns
+    plain-all-requires
+    returns-2
+    shrinking-requires
+    returns-3
+    right-first-requires
+    returns-4
+    shrinking-requires-2
+    returns-5)

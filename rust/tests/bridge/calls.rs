@@ -1,0 +1,373 @@
+//! The wrappers of the crate `bridge_texts` as safe calls, with guards around every lent buffer.
+use crate::common::model::decoder::Decoder;
+use crate::common::model::index::Builder;
+use crate::common::model::places::Place;
+use crate::common::model::Told;
+
+/// The reply of a wrapper that called nothing.
+pub const NOT_CALLED: usize = usize::MAX;
+
+/// Reads a text and tells.
+pub type Reads<T> = unsafe extern "C" fn(*const T, usize, *mut usize, usize) -> usize;
+/// Reads a text, writes an output and tells.
+pub type Writes<T, U> =
+    unsafe extern "C" fn(*const T, usize, *mut U, usize, *mut usize, usize) -> usize;
+/// Looks an offset up in a text and tells.
+pub type Looks = unsafe extern "C" fn(*const u8, usize, usize, *mut usize, usize) -> usize;
+/// Looks an offset up in a text with an index, and tells.
+pub type Finds =
+    unsafe extern "C" fn(*const u8, usize, *const u32, usize, usize, *mut usize, usize) -> usize;
+/// Looks from a place on, by a kind and an offset, and tells.
+pub type Goes = unsafe extern "C" fn(
+    *const u8,
+    usize,
+    *const usize,
+    usize,
+    usize,
+    usize,
+    *mut usize,
+    usize,
+) -> usize;
+/// Cuts a text.
+pub type Cuts = unsafe extern "C" fn(*const u8, usize, usize) -> usize;
+
+// Nothing compares these declarations with the Rattle source but the tests: a slice passes as a pointer and a length.
+#[rustfmt::skip]
+#[link(name = "bridge_texts", kind = "static")]
+#[link(name = "bridge_places", kind = "static")]
+extern "C" {
+    pub fn bridge_utf8_segment(text: *const u8, n: usize, says: *mut usize, m: usize) -> usize;
+    pub fn bridge_utf16_segment(text: *const u16, n: usize, says: *mut usize, m: usize) -> usize;
+    pub fn bridge_code_points_segment(text: *const u32, n: usize, says: *mut usize, m: usize) -> usize;
+    pub fn bridge_utf8_point(text: *const u8, n: usize, says: *mut usize, m: usize) -> usize;
+    pub fn bridge_utf16_point(text: *const u16, n: usize, says: *mut usize, m: usize) -> usize;
+    pub fn bridge_code_points_point(text: *const u32, n: usize, says: *mut usize, m: usize) -> usize;
+    pub fn bridge_utf8_check(text: *const u8, n: usize, says: *mut usize, m: usize) -> usize;
+    pub fn bridge_utf16_check(text: *const u16, n: usize, says: *mut usize, m: usize) -> usize;
+    pub fn bridge_code_points_check(text: *const u32, n: usize, says: *mut usize, m: usize) -> usize;
+
+    pub fn bridge_bytes_to_units(text: *const u8, n: usize, out: *mut u16, k: usize, says: *mut usize, m: usize) -> usize;
+    pub fn bridge_bytes_to_codes(text: *const u8, n: usize, out: *mut u32, k: usize, says: *mut usize, m: usize) -> usize;
+    pub fn bridge_bytes_repair(text: *const u8, n: usize, out: *mut u8, k: usize, says: *mut usize, m: usize) -> usize;
+    pub fn bridge_bytes_repair_to_units(text: *const u8, n: usize, out: *mut u16, k: usize, says: *mut usize, m: usize) -> usize;
+    pub fn bridge_units_to_bytes(text: *const u16, n: usize, out: *mut u8, k: usize, says: *mut usize, m: usize) -> usize;
+    pub fn bridge_units_to_codes(text: *const u16, n: usize, out: *mut u32, k: usize, says: *mut usize, m: usize) -> usize;
+    pub fn bridge_units_repair(text: *const u16, n: usize, out: *mut u16, k: usize, says: *mut usize, m: usize) -> usize;
+    pub fn bridge_units_repair_to_bytes(text: *const u16, n: usize, out: *mut u8, k: usize, says: *mut usize, m: usize) -> usize;
+    pub fn bridge_code_points_to_bytes(text: *const u32, n: usize, out: *mut u8, k: usize, says: *mut usize, m: usize) -> usize;
+    pub fn bridge_code_points_to_units(text: *const u32, n: usize, out: *mut u16, k: usize, says: *mut usize, m: usize) -> usize;
+
+    fn bridge_most(from: usize, to: usize, n: usize) -> usize;
+    fn bridge_decoder_most(n: usize) -> usize;
+    fn bridge_index_needed(long: usize) -> usize;
+
+    pub fn bridge_cut_bytes(text: *const u8, n: usize, most: usize) -> usize;
+    pub fn bridge_cut_units(text: *const u8, n: usize, most: usize) -> usize;
+    pub fn bridge_cut_points(text: *const u8, n: usize, most: usize) -> usize;
+    pub fn bridge_plain_byte(text: *const u8, n: usize, offset: usize, says: *mut usize, m: usize) -> usize;
+    pub fn bridge_plain_unit(text: *const u8, n: usize, offset: usize, says: *mut usize, m: usize) -> usize;
+    pub fn bridge_plain_point(text: *const u8, n: usize, offset: usize, says: *mut usize, m: usize) -> usize;
+    pub fn bridge_plain_line(text: *const u8, n: usize, offset: usize, says: *mut usize, m: usize) -> usize;
+    pub fn bridge_plain_resume(text: *const u8, n: usize, from: *const usize, f: usize, kind: usize, offset: usize, says: *mut usize, m: usize) -> usize;
+    pub fn bridge_plain_last(text: *const u8, n: usize, from: *const usize, f: usize, kind: usize, offset: usize, says: *mut usize, m: usize) -> usize;
+    pub fn bridge_index_byte(text: *const u8, n: usize, row: *const u32, k: usize, offset: usize, says: *mut usize, m: usize) -> usize;
+    pub fn bridge_index_unit(text: *const u8, n: usize, row: *const u32, k: usize, offset: usize, says: *mut usize, m: usize) -> usize;
+    pub fn bridge_index_point(text: *const u8, n: usize, row: *const u32, k: usize, offset: usize, says: *mut usize, m: usize) -> usize;
+    pub fn bridge_index_line(text: *const u8, n: usize, row: *const u32, k: usize, offset: usize, says: *mut usize, m: usize) -> usize;
+    fn bridge_index_audit(text: *const u8, n: usize, row: *const u32, k: usize) -> usize;
+
+    fn bridge_decoder_start(room: usize, state: *mut usize, k: usize, says: *mut usize, m: usize) -> usize;
+    fn bridge_decoder_feed(state: *mut usize, k: usize, piece: *const u8, n: usize, out: *mut u8, o: usize, list: *mut u32, l: usize, says: *mut usize, m: usize) -> usize;
+    fn bridge_decoder_finish(state: *mut usize, k: usize, out: *mut u8, o: usize, list: *mut u32, l: usize, says: *mut usize, m: usize) -> usize;
+    fn bridge_decoder_step(state: *mut usize, k: usize, b: u8) -> usize;
+    fn bridge_build_fresh(state: *mut usize, k: usize) -> usize;
+    fn bridge_build_feed(state: *mut usize, k: usize, piece: *const u8, n: usize, row: *mut u32, r: usize, says: *mut usize, m: usize) -> usize;
+    fn bridge_build_finish(state: *mut usize, k: usize, row: *mut u32, r: usize, says: *mut usize, m: usize) -> usize;
+
+    fn bridge_pending_is_tail(held: *const usize, h: usize, n: usize) -> usize;
+    fn bridge_pending_seam_of(held: *const usize, h: usize, n: usize, piece: *const u8, p: usize, says: *mut usize, m: usize) -> usize;
+    fn bridge_pending_hold(text: *const u8, n: usize, says: *mut usize, m: usize) -> usize;
+    fn bridge_pending_settled_size(kind: usize, n: usize) -> usize;
+}
+
+/// The lookups by measure.
+pub const PLAIN: [Looks; 4] = [
+    bridge_plain_byte,
+    bridge_plain_unit,
+    bridge_plain_point,
+    bridge_plain_line,
+];
+pub const INDEXED: [Finds; 4] = [
+    bridge_index_byte,
+    bridge_index_unit,
+    bridge_index_point,
+    bridge_index_line,
+];
+pub const CUT: [Cuts; 3] = [bridge_cut_bytes, bridge_cut_units, bridge_cut_points];
+
+/// Places before and behind each lent part.
+pub const MARGIN: usize = 8;
+const GUARD: usize = 0xA5A5_5A5A_0F0F_F0F0;
+
+/// A buffer to lend n places of, with margins, filled with numbers that differ from place to place.
+pub fn filled<T: From<u8>>(n: usize) -> Vec<T> {
+    (0..n + 2 * MARGIN)
+        .map(|i| T::from((i * 167 + 13) as u8))
+        .collect()
+}
+
+/// The lent part.
+pub fn inner<T>(buffer: &mut [T]) -> &mut [T] {
+    let end = buffer.len() - MARGIN;
+    &mut buffer[MARGIN..end]
+}
+
+/// Lends so many places for what a call tells, and reads what it told; no other place may change.
+fn told_in(places: usize, call: impl FnOnce(*mut usize, usize) -> usize) -> Told {
+    let mut says = [GUARD; 32];
+    let reply = call(says[MARGIN..].as_mut_ptr(), places);
+    let (told, rest) = if reply == NOT_CALLED {
+        (vec![NOT_CALLED], MARGIN)
+    } else {
+        assert!(reply <= places, "{reply} numbers told in {places} places");
+        (says[MARGIN..MARGIN + reply].to_vec(), MARGIN + reply)
+    };
+    assert!(
+        says[..MARGIN]
+            .iter()
+            .chain(&says[rest..])
+            .all(|&n| n == GUARD),
+        "told {told:?}, and another place of says is changed"
+    );
+    told
+}
+
+fn told(call: impl FnOnce(*mut usize, usize) -> usize) -> Told {
+    told_in(8, call)
+}
+
+// SAFETY of all calls below: each wrapper reads and writes the slices that it is lent alone, and has no other precondition.
+
+pub fn reads<T>(call: Reads<T>, text: &[T], places: usize) -> Told {
+    told_in(places, |s, m| unsafe {
+        call(text.as_ptr(), text.len(), s, m)
+    })
+}
+
+pub fn writes<T, U>(call: Writes<T, U>, text: &[T], out: &mut [U], places: usize) -> Told {
+    let (o, k) = (out.as_mut_ptr(), out.len());
+    told_in(places, |s, m| unsafe {
+        call(text.as_ptr(), text.len(), o, k, s, m)
+    })
+}
+
+pub fn looks(call: Looks, text: &[u8], offset: usize, places: usize) -> Told {
+    told_in(places, |s, m| unsafe {
+        call(text.as_ptr(), text.len(), offset, s, m)
+    })
+}
+
+pub fn finds(call: Finds, text: &[u8], row: &[u32], offset: usize, places: usize) -> Told {
+    told_in(places, |s, m| unsafe {
+        call(
+            text.as_ptr(),
+            text.len(),
+            row.as_ptr(),
+            row.len(),
+            offset,
+            s,
+            m,
+        )
+    })
+}
+
+pub fn goes(call: Goes, text: &[u8], from: Place, kind: usize, offset: usize) -> Told {
+    told(|s, m| unsafe {
+        call(
+            text.as_ptr(),
+            text.len(),
+            from.as_ptr(),
+            from.len(),
+            kind,
+            offset,
+            s,
+            m,
+        )
+    })
+}
+
+/// The most places that so many elements of one form can need in another: 0 bytes, 1 units, 2 code points.
+pub fn most(from: usize, to: usize, n: usize) -> usize {
+    unsafe { bridge_most(from, to, n) }
+}
+
+pub fn repair_most(n: usize) -> usize {
+    unsafe { bridge_decoder_most(n) }
+}
+
+pub fn index_needed(long: usize) -> usize {
+    unsafe { bridge_index_needed(long) }
+}
+
+pub fn cuts(call: Cuts, text: &[u8], most: usize) -> usize {
+    unsafe { call(text.as_ptr(), text.len(), most) }
+}
+
+pub fn audit(text: &[u8], row: &[u32]) -> usize {
+    unsafe { bridge_index_audit(text.as_ptr(), text.len(), row.as_ptr(), row.len()) }
+}
+
+/// Lends a state in a longer row, and reads it back; the places around it may not change.
+fn with_state<const N: usize>(
+    state: [usize; N],
+    call: impl FnOnce(*mut usize) -> Told,
+) -> (Told, [usize; N]) {
+    let mut row = [GUARD; 32];
+    row[MARGIN..MARGIN + N].copy_from_slice(&state);
+    let told = call(row[MARGIN..].as_mut_ptr());
+    assert!(
+        row[..MARGIN]
+            .iter()
+            .chain(&row[MARGIN + N..])
+            .all(|&n| n == GUARD),
+        "a place beside the state is changed"
+    );
+    (told, row[MARGIN..MARGIN + N].try_into().unwrap())
+}
+
+/// The lengths that a state is lent with: its own, and more.
+fn spare(n: usize) -> usize {
+    n + 5
+}
+
+pub fn repair_start(room: usize, before: [usize; 9]) -> (Told, Decoder) {
+    let (t, n) = with_state(before, |p| {
+        told(|s, m| unsafe { bridge_decoder_start(room, p, spare(9), s, m) })
+    });
+    (t, Decoder::of(n))
+}
+
+pub fn repair_feed(
+    state: Decoder,
+    piece: &[u8],
+    out: &mut [u8],
+    list: &mut [u32],
+) -> (Told, Decoder) {
+    let (o, k, l, j) = (out.as_mut_ptr(), out.len(), list.as_mut_ptr(), list.len());
+    let (t, n) = with_state(state.numbers(), |p| {
+        told(|s, m| unsafe {
+            bridge_decoder_feed(p, 9, piece.as_ptr(), piece.len(), o, k, l, j, s, m)
+        })
+    });
+    (t, Decoder::of(n))
+}
+
+pub fn repair_finish(state: Decoder, out: &mut [u8], list: &mut [u32]) -> (Told, Decoder) {
+    let (o, k, l, j) = (out.as_mut_ptr(), out.len(), list.as_mut_ptr(), list.len());
+    let (t, n) = with_state(state.numbers(), |p| {
+        told(|s, m| unsafe { bridge_decoder_finish(p, spare(9), o, k, l, j, s, m) })
+    });
+    (t, Decoder::of(n))
+}
+
+pub fn watch_step(state: Decoder, b: u8) -> (usize, Decoder) {
+    let (t, n) = with_state(state.numbers(), |p| {
+        vec![unsafe { bridge_decoder_step(p, 9, b) }]
+    });
+    (t[0], Decoder::of(n))
+}
+
+pub fn build_fresh(before: [usize; 8]) -> (usize, Builder) {
+    let (t, n) = with_state(before, |p| {
+        vec![unsafe { bridge_build_fresh(p, spare(8)) }]
+    });
+    (t[0], Builder::of(n))
+}
+
+pub fn build_feed(state: Builder, piece: &[u8], row: &mut [u32]) -> (Told, Builder) {
+    let (r, k) = (row.as_mut_ptr(), row.len());
+    let (t, n) = with_state(state.numbers(), |p| {
+        told(|s, m| unsafe { bridge_build_feed(p, 8, piece.as_ptr(), piece.len(), r, k, s, m) })
+    });
+    (t, Builder::of(n))
+}
+
+pub fn build_finish(state: Builder, row: &mut [u32]) -> (Told, Builder) {
+    let (r, k) = (row.as_mut_ptr(), row.len());
+    let (t, n) = with_state(state.numbers(), |p| {
+        told(|s, m| unsafe { bridge_build_finish(p, spare(8), r, k, s, m) })
+    });
+    (t, Builder::of(n))
+}
+
+pub fn is_tail(held: &[usize], n: usize) -> usize {
+    unsafe { bridge_pending_is_tail(held.as_ptr(), held.len(), n) }
+}
+
+pub fn seam_of(held: &[usize], n: usize, piece: &[u8]) -> Told {
+    told(|s, m| unsafe {
+        bridge_pending_seam_of(
+            held.as_ptr(),
+            held.len(),
+            n,
+            piece.as_ptr(),
+            piece.len(),
+            s,
+            m,
+        )
+    })
+}
+
+pub fn hold(left: &[u8]) -> Told {
+    reads(bridge_pending_hold, left, 8)
+}
+
+pub fn settled_size(kind: usize, n: usize) -> usize {
+    unsafe { bridge_pending_settled_size(kind, n) }
+}
+
+/// Calls with lent slices that are too short to be a state, or with too few places to tell in: what each replies.
+pub fn too_short() -> Vec<usize> {
+    let mut state = [0usize; 9];
+    let (p, mut says) = (state.as_mut_ptr(), [GUARD; 8]);
+    let (s, text, none) = (
+        says.as_mut_ptr(),
+        [0x41u8; 4],
+        std::ptr::NonNull::dangling().as_ptr(),
+    );
+    let (mut out, mut row) = ([7u8; 16], [7u32; 16]);
+    let (t, o, r) = (text.as_ptr(), out.as_mut_ptr(), row.as_mut_ptr());
+    let from = [0usize; 4];
+    let replies = unsafe {
+        vec![
+            bridge_decoder_start(2, p, 8, s, 8),
+            bridge_decoder_start(2, none, 0, s, 8),
+            bridge_decoder_start(2, p, 9, s, 7),
+            bridge_decoder_feed(p, 8, t, 4, o, 16, r, 16, s, 8),
+            bridge_decoder_feed(p, 9, t, 4, o, 16, r, 16, s, 7),
+            bridge_decoder_finish(p, 8, o, 16, r, 16, s, 8),
+            bridge_decoder_finish(p, 9, o, 16, r, 16, s, 0),
+            bridge_decoder_step(p, 8, 0x41),
+            bridge_build_fresh(p, 7),
+            bridge_build_feed(p, 7, t, 4, r, 16, s, 8),
+            bridge_build_feed(p, 8, t, 4, r, 16, s, 7),
+            bridge_build_finish(p, 7, r, 16, s, 8),
+            bridge_build_finish(p, 8, r, 16, s, 7),
+            bridge_pending_is_tail(p, 2, 0),
+            bridge_pending_seam_of(p, 2, 0, t, 4, s, 8),
+            bridge_pending_seam_of(p, 3, 0, t, 4, s, 7),
+            bridge_pending_hold(t, 4, s, 7),
+            bridge_plain_resume(t, 4, from.as_ptr(), 3, 0, 0, s, 8),
+            bridge_plain_last(t, 4, from.as_ptr(), 3, 0, 0, s, 8),
+            bridge_plain_resume(t, 4, from.as_ptr(), 4, 0, 0, s, 7),
+            bridge_plain_last(t, 4, from.as_ptr(), 4, 0, 0, s, 7),
+        ]
+    };
+    assert_eq!(
+        (state, says),
+        ([0; 9], [GUARD; 8]),
+        "changed where not called"
+    );
+    assert_eq!((out, row), ([7; 16], [7; 16]), "changed where not called");
+    replies
+}

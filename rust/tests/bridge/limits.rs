@@ -1,0 +1,192 @@
+//! The limits: texts of 16,777,216 elements and one more for every call, and the room of a list.
+use crate::calls::{self, *};
+use crate::common::model::decoder::{start, Decoder};
+use crate::common::model::index::{lookup, need, Builder};
+use crate::common::model::places::LINES;
+use crate::common::model::{LIMIT, ROOM};
+use crate::pieces::Tried;
+use crate::Run;
+use std::fmt::Debug;
+
+/// A writing call at the limit and one over, where each element is written as some.
+fn writing<T, U>(run: &mut Run, call: Writes<T, U>, element: T, written: &[U])
+where
+    T: Copy,
+    U: Copy + Debug + PartialEq + From<u8>,
+{
+    let text = vec![element; LIMIT + 1];
+    let need = LIMIT * written.len();
+    let mut out = filled::<U>(need);
+    let kept = |out: &[U], from: usize| {
+        let edge = filled::<U>(need);
+        out[..MARGIN] == edge[..MARGIN] && out[MARGIN + from..] == edge[MARGIN + from..]
+    };
+    assert_eq!(writes(call, &text, inner(&mut out), 8), [2]);
+    let short = &mut inner(&mut out)[..need - 1];
+    assert_eq!(writes(call, &text[..LIMIT], short, 8), [3, need]);
+    assert!(kept(&out, 0), "a refusal changed the output");
+    assert_eq!(writes(call, &text[..LIMIT], inner(&mut out), 8), [0, need]);
+    let (body, n) = (inner(&mut out), written.len());
+    assert!(body.chunks(n).all(|part| part == written));
+    assert!(
+        kept(&out, need),
+        "a place behind the written part is changed"
+    );
+    run.cases += 3;
+}
+
+/// A check at the limit, one over, and with damage at the last place.
+fn checking<T: Copy>(run: &mut Run, call: Reads<T>, good: T, bad: T, refusal: &[usize]) {
+    let mut text = vec![good; LIMIT + 1];
+    assert_eq!(reads(call, &text, 8), [2]);
+    assert_eq!(reads(call, &text[..LIMIT], 8), [0]);
+    text[LIMIT - 1] = bad;
+    assert_eq!(reads(call, &text, 8), [2]);
+    assert_eq!(reads(call, &text[..LIMIT], 8), refusal);
+    run.cases += 4;
+}
+
+pub fn conversions(run: &mut Run) {
+    checking(run, bridge_utf8_check, b'A', 0x80, &[1, LIMIT - 1, 1]);
+    checking(run, bridge_utf16_check, 0x4E00, 0xD800, &[1, LIMIT - 1, 1]);
+    checking(run, bridge_code_points_check, 0x1F686, 0xD800, &[9, LIMIT - 1]);
+    writing(run, bridge_bytes_to_units, b'A', &[0x41]);
+    writing(run, bridge_bytes_to_codes, b'A', &[0x41]);
+    writing(run, bridge_bytes_repair, b'A', b"A");
+    writing(run, bridge_bytes_repair, 0x80, b"\xEF\xBF\xBD");
+    writing(run, bridge_bytes_repair_to_units, 0x80, &[0xFFFD]);
+    writing(run, bridge_units_to_bytes, 0x4E00, b"\xE4\xB8\x80");
+    writing(run, bridge_units_to_codes, 0x4E00, &[0x4E00]);
+    writing(run, bridge_units_repair, 0xDC00, &[0xFFFD]);
+    writing(run, bridge_units_repair_to_bytes, 0xDC00, b"\xEF\xBF\xBD");
+    writing(run, bridge_code_points_to_bytes, 0x1F686, b"\xF0\x9F\x9A\x86");
+    writing(run, bridge_code_points_to_units, 0x1F686, &[0xD83D, 0xDE86]);
+}
+
+/// The room of a list at the start.
+fn rooms(run: &mut Run) {
+    for room in [0, 1, ROOM - 1, ROOM, ROOM + 1, LIMIT, usize::MAX] {
+        assert_eq!(repair_start(room, [5; 9]), start(room), "room {room}");
+        run.cases += 1;
+    }
+}
+
+/// States within some bytes of the limit, whole but for what is pending.
+fn near(run: &mut Run, back: usize, pending: usize) {
+    let held = [[0; 3], [0xE2, 0, 0], [0xE2, 0x82, 0], [0xF0, 0x9F, 0x9A]][pending];
+    let taken = LIMIT - back;
+    let state = Decoder {
+        held,
+        pending,
+        taken,
+        whole: taken - pending,
+        ..Decoder::fresh(1)
+    };
+    for n in 0..6 {
+        let piece = &b"\x82\xAC\x41\x80\x41\x41"[..n];
+        for (out, list) in [(20, 2), (0, 2), (20, 1)] {
+            let tried = Tried {
+                state,
+                piece: Some(piece),
+                out,
+                list,
+            };
+            tried.compare(&mut filled(list), || format!("{state:?}, {piece:02X?}"));
+            run.cases += 1;
+        }
+    }
+    assert_eq!(calls::watch_step(state, 0x41), state.watch(0x41));
+    let tried = Tried {
+        state,
+        piece: None,
+        out: 3,
+        list: 2,
+    };
+    tried.compare(&mut filled(2), || format!("finish of {state:?}"));
+    run.cases += 2;
+}
+
+/// One feed of a whole text at the limit.
+fn long_feed(run: &mut Run) {
+    let text = vec![b'A'; LIMIT + 1];
+    let (mut out, mut list) = (filled::<u8>(LIMIT), filled::<u32>(0));
+    let state = Decoder::fresh(0);
+    let refused = repair_feed(state, &text, inner(&mut out), inner(&mut list));
+    assert_eq!(refused, (vec![2], state));
+    assert!(out == filled::<u8>(LIMIT));
+    let (told, after) = repair_feed(state, &text[..LIMIT], inner(&mut out), inner(&mut list));
+    let whole = Decoder {
+        taken: LIMIT,
+        whole: LIMIT,
+        ..state
+    };
+    assert_eq!((told, after), (vec![0, LIMIT], whole));
+    assert!(inner(&mut out) == &text[..LIMIT] && list == filled::<u32>(0));
+    assert_eq!(calls::watch_step(after, 0x41), (4_294_967_295, after));
+    let finished = repair_finish(after, &mut [], &mut []);
+    assert_eq!(finished, (vec![0, 0, LIMIT, 0, 0], state));
+    run.cases += 4;
+}
+
+pub fn pieces(run: &mut Run) {
+    rooms(run);
+    for back in 0..6 {
+        (0..4).for_each(|pending| near(run, back, pending));
+    }
+    long_feed(run);
+}
+
+/// The index of a text of so many letters.
+fn row_of_letters(length: usize) -> Vec<u32> {
+    (0..=length as u32 / 256)
+        .flat_map(|k| [256 * k, 256 * k, 256 * k, 0])
+        .collect()
+}
+
+fn builder(run: &mut Run, text: &[u8]) -> Vec<u32> {
+    let fresh = Builder::fresh();
+    let mut row = filled::<u32>(need(LIMIT));
+    assert_eq!(build_feed(fresh, text, inner(&mut row)), (vec![2], fresh));
+    let (whole, long) = (&text[..LIMIT], need(LIMIT));
+    let short = &mut inner(&mut row)[..long - 1];
+    assert_eq!(build_feed(fresh, whole, short), (vec![3, long], fresh));
+    assert!(row == filled::<u32>(long), "a refusal changed the index");
+    let (told, state) = build_feed(fresh, whole, inner(&mut row));
+    let counts = Builder {
+        taken: LIMIT,
+        units: LIMIT,
+        points: LIMIT,
+        ..fresh
+    };
+    assert_eq!((told, state), (vec![0], counts));
+    assert_eq!(build_feed(state, b"A", inner(&mut row)), (vec![2], state));
+    assert_eq!(build_finish(state, inner(&mut row)), (vec![0], fresh));
+    assert!(inner(&mut row) == row_of_letters(LIMIT));
+    run.cases += 5;
+    inner(&mut row).to_vec()
+}
+
+pub fn lookups(run: &mut Run) {
+    let text = vec![b'A'; LIMIT + 1];
+    let row = builder(run, &text);
+    let whole = &text[..LIMIT];
+    assert_eq!([audit(whole, &row), audit(&text, &row)], [1, 0]);
+    assert_eq!(audit(whole, &row[..row.len() - 1]), 0);
+    run.cases += 3;
+    for measure in 0..4 {
+        assert_eq!(looks(PLAIN[measure], &text, 0, 8), [2]);
+        assert_eq!(finds(INDEXED[measure], &text, &row, 0, 8), [2]);
+        let (offset, end) = if measure == LINES {
+            (0, 0)
+        } else {
+            (LIMIT, LIMIT)
+        };
+        for (offset, told) in [(offset, vec![0, end, end, end, 0]), (offset + 1, vec![4])] {
+            assert_eq!(looks(PLAIN[measure], whole, offset, 8), told);
+            assert_eq!(lookup(whole, &row, measure, offset), told);
+            assert_eq!(finds(INDEXED[measure], whole, &row, offset, 8), told);
+            run.cases += 2;
+        }
+        run.cases += 2;
+    }
+}
