@@ -54,9 +54,9 @@ fn write_units(text: &[u8], out: &mut [u16]) -> usize
 {
     let mut at: usize = 0;
     let mut done: usize = 0;
-    let mut calm: usize = 8;
+    let mut calm = utf8_check::CALM;
     loop {
-        let run = utf8_repair::run_of(&text[at..], calm);
+        let run = utf8_check::calm_run(&text[at..], calm);
         done += spell(&text[at..], run, &mut out[done..]);
         at += run;
         if text.len() <= at {
@@ -65,7 +65,7 @@ fn write_units(text: &[u8], out: &mut [u16]) -> usize
         let p = utf8::point(&text[at..]);
         done += convert_point::put_units(&mut out[done..], p.number);
         at += p.size;
-        calm = utf8_repair::calm_behind(calm, run, p.number);
+        calm = utf8_check::calm_behind(calm, run, p.number == 0xFFFD);
     }
 }
 

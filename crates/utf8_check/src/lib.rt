@@ -8,6 +8,12 @@ ghost use Rattle.terms.specs.Strict.{checkSays};
 ghost use Rattle.utf8.specs.Bytes.{bytes};
 ghost use Rattle.utf8_check.specs.Run.{wholeRun};
 
+mod pace;
+
+pub use pace::CALM;
+pub use pace::calm_behind;
+pub use pace::calm_run;
+
 // How many bytes come before the first damage? All of them, where there is none.
 pub fn whole_run(text: &[u8]) -> usize
     ensures { λ r. ⌜ r ≡ wholeRun (now (text .entry)) ⌝ }

@@ -16,33 +16,6 @@ ghost use Rattle.utf8_check.specs.Run.{wholeRun};
 ghost use Rattle.utf8.specs.Scalar.{utf8};
 ghost use Rattle.convert_point.specs.Puts.{Puts};
 ghost use Rattle.convert_point.specs.Passes.{PassesTo};
-ghost use Rattle.utf8_repair.specs.Calm.{calmBehind};
-
-// The whole segments at the start of a text that is calm; else none of them.
-pub fn run_of(text: &[u8], calm: usize) -> usize
-    ensures { λ r. ⌜ r ≡ cond (ltb calm 8) 0 (wholeRun (now (text .entry))) ⌝ }
-{
-    if calm < 8 {
-        return 0;
-    }
-    utf8_check::whole_run(text)
-}
-
-// How calm a text is behind one segment more: a long run in front of it is calm, and a U+FFFD undoes five others.
-pub fn calm_behind(calm: usize, run: usize, number: u32) -> usize
-    ensures { λ r. ⌜ r ≡ calmBehind calm run number ⌝ }
-{
-    if 16 <= run {
-        return 10;
-    }
-    if number != 0xFFFD {
-        if calm < 8 {
-            return calm + 1;
-        }
-        return calm;
-    }
-    if calm < 5 { 0 } else { calm - 5 }
-}
 
 // How many bytes the repaired form has: runs of whole segments are counted at once.
 fn need_bytes(text: &[u8]) -> usize
@@ -51,9 +24,9 @@ fn need_bytes(text: &[u8]) -> usize
 {
     let mut at: usize = 0;
     let mut total: usize = 0;
-    let mut calm: usize = 8;
+    let mut calm = utf8_check::CALM;
     loop {
-        let run = run_of(&text[at..], calm);
+        let run = utf8_check::calm_run(&text[at..], calm);
         total += run;
         at += run;
         if text.len() <= at {
@@ -62,7 +35,7 @@ fn need_bytes(text: &[u8]) -> usize
         let p = utf8::point(&text[at..]);
         total += convert_point::bytes_of(p.number);
         at += p.size;
-        calm = calm_behind(calm, run, p.number);
+        calm = utf8_check::calm_behind(calm, run, p.number == 0xFFFD);
     }
 }
 
@@ -84,7 +57,7 @@ fn mend(text: &[u8], calm: usize, run: usize, out: &mut [u8]) -> Mended
         return Mended {
             passed: 1,
             put: 1,
-            calm: calm_behind(calm, run, 0),
+            calm: utf8_check::calm_behind(calm, run, false),
         };
     }
     if a < 0xC2 {
@@ -94,7 +67,7 @@ fn mend(text: &[u8], calm: usize, run: usize, out: &mut [u8]) -> Mended
         return Mended {
             passed: 1,
             put: 3,
-            calm: calm_behind(calm, run, 0xFFFD),
+            calm: utf8_check::calm_behind(calm, run, true),
         };
     }
     let p = utf8::point(text);
@@ -102,7 +75,7 @@ fn mend(text: &[u8], calm: usize, run: usize, out: &mut [u8]) -> Mended
     Mended {
         passed: p.size,
         put,
-        calm: calm_behind(calm, run, p.number),
+        calm: utf8_check::calm_behind(calm, run, p.number == 0xFFFD),
     }
 }
 
@@ -124,9 +97,9 @@ fn write_bytes(text: &[u8], out: &mut [u8]) -> usize
 {
     let mut at: usize = 0;
     let mut done: usize = 0;
-    let mut calm: usize = 8;
+    let mut calm = utf8_check::CALM;
     loop {
-        let run = run_of(&text[at..], calm);
+        let run = utf8_check::calm_run(&text[at..], calm);
         let end = at + run;
         copy_run(&text[at..end], &mut out[done..]);
         done += run;

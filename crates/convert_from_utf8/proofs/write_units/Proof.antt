@@ -22,17 +22,17 @@ abbrev μ-loop : tie.MeasureT-loop
 loop-holds : tie.Need-loop-holds Inv-loop μ-loop
 loop-holds c = let a = c .before .before .args in wrote-start utf8 utf16 (a .text .now) (a .out .now)
 
-sub-run-of : tie.Need-sub-run-of Inv-loop μ-loop
-sub-run-of c = let i = c .loop .inv .inside in search needs
+sub-calm-run : tie.Need-sub-calm-run Inv-loop μ-loop
+sub-calm-run c = let i = c .loop .inv .inside in search needs
 
-part-run-of-start : tie.Need-part-run-of-start Inv-loop μ-loop
-part-run-of-start c = let i = c .loop .inv .inside in search needs
+part-calm-run-start : tie.Need-part-calm-run-start Inv-loop μ-loop
+part-calm-run-start c = let i = c .loop .inv .inside in search needs
 
-part-run-of-end : tie.Need-part-run-of-end Inv-loop μ-loop
-part-run-of-end c = search needs
+part-calm-run-end : tie.Need-part-calm-run-end Inv-loop μ-loop
+part-calm-run-end c = search needs
 
-run-of-requires : tie.Need-run-of-requires Inv-loop μ-loop
-run-of-requires c κs = search needs
+calm-run-requires : tie.Need-calm-run-requires Inv-loop μ-loop
+calm-run-requires c κs = search needs
 
 sub-spell : tie.Need-sub-spell Inv-loop μ-loop
 sub-spell c = let i = c .before .before .loop .inv .inside in search needs
@@ -61,8 +61,8 @@ spell-requires c κs =
     let l = r .before .before in
     let z = l .before .before .before in
     let text = z .args .text .now in (
-      run-in-part text (l .loop .at) (l .loop .calm) (r .run-of .result) (l .loop .inv .inside) (r .run-of .ensures),
-      units-room text (l .loop .at) (l .loop .calm) (r .run-of .result) (l .loop .inv .inside) (r .run-of .ensures) (z .args .out .now) (l .loop .out) (l .loop .done) (l .loop .inv) (z .pre),
+      run-in-part text (l .loop .at) (l .loop .calm) (r .calm-run .result) (l .loop .inv .inside) (r .calm-run .ensures),
+      units-room text (l .loop .at) (l .loop .calm) (r .calm-run .result) (l .loop .inv .inside) (r .calm-run .ensures) (z .args .out .now) (l .loop .out) (l .loop .done) (l .loop .inv) (z .pre),
     )
 
 -- what is written behind the run
@@ -70,12 +70,12 @@ ran : (s : tie.After-spell Inv-loop μ-loop)
     → let r = s .before .before .before in
     let l = r .before .before in
     let a = l .before .before .before .args in
-    Wrote utf8 utf16 (a .text .now) (a .out .now) (back (l .loop .out) (l .loop .done) (s .spell .last .1 .1 .0)) (l .loop .at + r .run-of .result) (l .loop .done + s .spell .result)
+    Wrote utf8 utf16 (a .text .now) (a .out .now) (back (l .loop .out) (l .loop .done) (s .spell .last .1 .1 .0)) (l .loop .at + r .calm-run .result) (l .loop .done + s .spell .result)
 ran s =
     let r = s .before .before .before in
     let l = r .before .before in
     let z = l .before .before .before in
-    wrote-units (z .args .text .now) (l .loop .at) (l .loop .calm) (r .run-of .result) (l .loop .inv .inside) (r .run-of .ensures) (z .args .out .now) (l .loop .out) (l .loop .done)
+    wrote-units (z .args .text .now) (l .loop .at) (l .loop .calm) (r .calm-run .result) (l .loop .inv .inside) (r .calm-run .ensures) (z .args .out .now) (l .loop .out) (l .loop .done)
     (l .loop .inv) (z .pre) (s .spell .last .1 .1 .0) (s .spell .result) (s .spell .ensures)
 
 add-done : tie.Need-add-done Inv-loop μ-loop
@@ -93,7 +93,7 @@ returns c =
     let r = s .before .before .before in
     let l = r .before .before in
     let a = l .before .before .before .args in
-    let e = wrote-end utf8 utf16 (a .text .now) (a .out .now) (back (l .loop .out) (l .loop .done) (s .spell .last .1 .1 .0)) (l .loop .at + r .run-of .result) (l .loop .done + s .spell .result)
+    let e = wrote-end utf8 utf16 (a .text .now) (a .out .now) (back (l .loop .out) (l .loop .done) (s .spell .last .1 .1 .0)) (l .loop .at + r .calm-run .result) (l .loop .done + s .spell .result)
     (ran s) (c .if1 .taken) in
     record { count = e .0; output = e .1 }
 
@@ -125,12 +125,12 @@ part-put-units-end c = let w = ran (c .before .before .before .before .before) i
 here : (p : tie.After-point Inv-loop μ-loop)
     → let r = p .before .before .before .before .before .before .before .before in
     let l = r .before .before in
-    Met utf8 (l .before .before .before .args .text .now) (l .loop .at + r .run-of .result) (p .point .result .size) (p .point .result .number)
+    Met utf8 (l .before .before .before .args .text .now) (l .loop .at + r .calm-run .result) (p .point .result .size) (p .point .result .number)
 here p =
     let e = p .before .before in
     let r = e .before .before .before .before .before .before in
     let l = r .before .before in
-    met utf8-faithful (l .before .before .before .args .text .now) (l .loop .at + r .run-of .result) (e .if1 .left) _ _ (p .point .ensures)
+    met utf8-faithful (l .before .before .before .args .text .now) (l .loop .at + r .calm-run .result) (e .if1 .left) _ _ (p .point .ensures)
 
 put-units-requires : tie.Need-put-units-requires Inv-loop μ-loop
 put-units-requires c κs = search needs
@@ -144,14 +144,14 @@ after : (u : tie.After-put-units Inv-loop μ-loop)
     let a = l .before .before .before .args in
     Wrote utf8 utf16 (a .text .now) (a .out .now)
     (back (back (l .loop .out) (l .loop .done) (s .spell .last .1 .1 .0)) (l .loop .done + s .spell .result) (u .put-units .last .0))
-    (l .loop .at + r .run-of .result + p .point .result .size) (l .loop .done + s .spell .result + u .put-units .result)
+    (l .loop .at + r .calm-run .result + p .point .result .size) (l .loop .done + s .spell .result + u .put-units .result)
 after u =
     let p = u .before .before in
     let s = p .before .before .before .before .before in
     let r = s .before .before .before in
     let l = r .before .before in
     let z = l .before .before .before in
-    wrote-put utf8 utf16 (z .args .text .now) (z .args .out .now) (back (l .loop .out) (l .loop .done) (s .spell .last .1 .1 .0)) (l .loop .at + r .run-of .result) (l .loop .done + s .spell .result)
+    wrote-put utf8 utf16 (z .args .text .now) (z .args .out .now) (back (l .loop .out) (l .loop .done) (s .spell .last .1 .1 .0)) (l .loop .at + r .calm-run .result) (l .loop .done + s .spell .result)
     (ran s) (z .pre) _ _ (here p) (u .put-units .last .0) (u .put-units .result) (u .put-units .ensures)
 
 add-done-2 : tie.Need-add-done-2 Inv-loop μ-loop
@@ -164,10 +164,10 @@ calm-behind-requires : tie.Need-calm-behind-requires Inv-loop μ-loop
 calm-behind-requires c κs = search needs
 
 loop-less : tie.Need-loop-less Inv-loop μ-loop
-loop-less c = let m = here (c .before .before .before .before .before .before) in omega (arith, m .some, m .inside)
+loop-less c = let m = here (c .before .before .before .before .before .before .before) in omega (arith, m .some, m .inside)
 
 loop-again : tie.Need-loop-again Inv-loop μ-loop
-loop-again c = after (c .before .before .before .before)
+loop-again c = after (c .before .before .before .before .before)
 
 pub write-units-spec : {M : Type 1} → statement M
 write-units-spec =
@@ -176,10 +176,10 @@ write-units-spec =
     Inv-loop
     μ-loop
     loop-holds
-    sub-run-of
-    part-run-of-start
-    part-run-of-end
-    run-of-requires
+    sub-calm-run
+    part-calm-run-start
+    part-calm-run-end
+    calm-run-requires
     sub-spell
     part-spell-start
     part-spell-end

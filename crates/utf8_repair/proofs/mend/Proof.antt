@@ -94,7 +94,7 @@ same-length-3 c = search needs
 
 returns-3 : tie.Need-returns-3
 returns-3 c =
-    let q = c .before .before .before in
+    let q = c .before .before .before .before in
     let p = q .before .before in
     let z = p .before .before .before .before .before .before in
     point-put utf8-faithful utf8 (z .args .text .now) (z .pre .0) _ _ (p .point .ensures) (z .args .out .now) _ _ (z .pre .1) (q .put-bytes .ensures)

@@ -22,25 +22,25 @@ abbrev μ-loop : tie.MeasureT-loop
 loop-holds : tie.Need-loop-holds Inv-loop μ-loop
 loop-holds c = (counted-start utf8 utf8 (c .before .args .text .now), omega arith)
 
-sub-run-of : tie.Need-sub-run-of Inv-loop μ-loop
-sub-run-of c = let i = c .loop .inv .0 .inside in search needs
+sub-calm-run : tie.Need-sub-calm-run Inv-loop μ-loop
+sub-calm-run c = let i = c .loop .inv .0 .inside in search needs
 
-part-run-of-start : tie.Need-part-run-of-start Inv-loop μ-loop
-part-run-of-start c = let i = c .loop .inv .0 .inside in search needs
+part-calm-run-start : tie.Need-part-calm-run-start Inv-loop μ-loop
+part-calm-run-start c = let i = c .loop .inv .0 .inside in search needs
 
-part-run-of-end : tie.Need-part-run-of-end Inv-loop μ-loop
-part-run-of-end c = search needs
+part-calm-run-end : tie.Need-part-calm-run-end Inv-loop μ-loop
+part-calm-run-end c = search needs
 
-run-of-requires : tie.Need-run-of-requires Inv-loop μ-loop
-run-of-requires c κs = search needs
+calm-run-requires : tie.Need-calm-run-requires Inv-loop μ-loop
+calm-run-requires c κs = search needs
 
 -- what is counted behind the run
-behind : (c : tie.After-run-of Inv-loop μ-loop)
+behind : (c : tie.After-calm-run Inv-loop μ-loop)
     → let l = c .before .before in
-    Counted utf8 utf8 (l .before .before .args .text .now) (l .loop .at + c .run-of .result) (l .loop .total + c .run-of .result)
+    Counted utf8 utf8 (l .before .before .args .text .now) (l .loop .at + c .calm-run .result) (l .loop .total + c .calm-run .result)
 behind c =
     let l = c .before .before in
-    counted-run (l .before .before .args .text .now) (l .loop .at) (l .loop .calm) (c .run-of .result) (l .loop .inv .0 .inside) (c .run-of .ensures) (l .loop .total) (l .loop .inv .0)
+    counted-run (l .before .before .args .text .now) (l .loop .at) (l .loop .calm) (c .calm-run .result) (l .loop .inv .0 .inside) (c .calm-run .ensures) (l .loop .total) (l .loop .inv .0)
 
 add-total : tie.Need-add-total Inv-loop μ-loop
 add-total c = let l = c .before .before in omega (arith, behind c .inside, l .loop .inv .1, l .before .before .pre)
@@ -52,7 +52,7 @@ returns : tie.Need-returns Inv-loop μ-loop
 returns c =
     let r = c .before in
     let l = r .before .before in
-    counted-end utf8 utf8 (l .before .before .args .text .now) (l .loop .at + r .run-of .result) (l .loop .total + r .run-of .result) (behind r) (c .if1 .taken)
+    counted-end utf8 utf8 (l .before .before .args .text .now) (l .loop .at + r .calm-run .result) (l .loop .total + r .calm-run .result) (behind r) (c .if1 .taken)
 
 sub-point : tie.Need-sub-point Inv-loop μ-loop
 sub-point c = let i = behind (c .before) .inside in search needs
@@ -73,12 +73,12 @@ bytes-of-requires c κs = search needs
 here : (c : tie.After-point Inv-loop μ-loop)
     → let r = c .before .before .before in
     let l = r .before .before in
-    Met utf8 (l .before .before .args .text .now) (l .loop .at + r .run-of .result) (c .point .result .size) (c .point .result .number)
+    Met utf8 (l .before .before .args .text .now) (l .loop .at + r .calm-run .result) (c .point .result .size) (c .point .result .number)
 here c =
     let e = c .before .before in
     let r = e .before in
     let l = r .before .before in
-    met utf8-faithful (l .before .before .args .text .now) (l .loop .at + r .run-of .result) (e .if1 .left) _ _ (c .point .ensures)
+    met utf8-faithful (l .before .before .args .text .now) (l .loop .at + r .calm-run .result) (e .if1 .left) _ _ (c .point .ensures)
 
 add-total-2 : tie.Need-add-total-2 Inv-loop μ-loop
 add-total-2 c =
@@ -97,17 +97,17 @@ calm-behind-requires : tie.Need-calm-behind-requires Inv-loop μ-loop
 calm-behind-requires c κs = search needs
 
 loop-less : tie.Need-loop-less Inv-loop μ-loop
-loop-less c = let m = here (c .before .before .before) in omega (arith, m .some, m .inside)
+loop-less c = let m = here (c .before .before .before .before) in omega (arith, m .some, m .inside)
 
 loop-again : tie.Need-loop-again Inv-loop μ-loop
 loop-again c =
-    let q = c .before .before in
+    let q = c .before .before .before in
     let p = q .before in
     let r = p .before .before .before in
     let l = r .before .before in
     let text = l .before .before .args .text .now in
     let m = here p in (
-      rw (q .bytes-of .ensures) (counted-next utf8 utf8 text (l .loop .at + r .run-of .result) (l .loop .total + r .run-of .result) _ _ (behind r) m),
+      rw (q .bytes-of .ensures) (counted-next utf8 utf8 text (l .loop .at + r .calm-run .result) (l .loop .total + r .calm-run .result) _ _ (behind r) m),
       omega (arith, l .loop .inv .1, q .bytes-of .ensures, at-most-four Bytes (p .point .result .number), m .some),
     )
 
@@ -118,10 +118,10 @@ need-bytes-spec =
     Inv-loop
     μ-loop
     loop-holds
-    sub-run-of
-    part-run-of-start
-    part-run-of-end
-    run-of-requires
+    sub-calm-run
+    part-calm-run-start
+    part-calm-run-end
+    calm-run-requires
     add-total
     add-at
     returns

@@ -22,25 +22,25 @@ abbrev μ-loop : tie.MeasureT-loop
 loop-holds : tie.Need-loop-holds Inv-loop μ-loop
 loop-holds c = let a = c .before .before .args in wrote-start utf8 utf8 (a .text .now) (a .out .now)
 
-sub-run-of : tie.Need-sub-run-of Inv-loop μ-loop
-sub-run-of c = let i = c .loop .inv .inside in search needs
+sub-calm-run : tie.Need-sub-calm-run Inv-loop μ-loop
+sub-calm-run c = let i = c .loop .inv .inside in search needs
 
-part-run-of-start : tie.Need-part-run-of-start Inv-loop μ-loop
-part-run-of-start c = let i = c .loop .inv .inside in search needs
+part-calm-run-start : tie.Need-part-calm-run-start Inv-loop μ-loop
+part-calm-run-start c = let i = c .loop .inv .inside in search needs
 
-part-run-of-end : tie.Need-part-run-of-end Inv-loop μ-loop
-part-run-of-end c = search needs
+part-calm-run-end : tie.Need-part-calm-run-end Inv-loop μ-loop
+part-calm-run-end c = search needs
 
-run-of-requires : tie.Need-run-of-requires Inv-loop μ-loop
-run-of-requires c κs = search needs
+calm-run-requires : tie.Need-calm-run-requires Inv-loop μ-loop
+calm-run-requires c κs = search needs
 
 -- the run ends within the text
-ends : (c : tie.After-run-of Inv-loop μ-loop)
+ends : (c : tie.After-calm-run Inv-loop μ-loop)
     → let l = c .before .before in
-    l .loop .at + c .run-of .result ≤ length (l .before .before .before .args .text .now)
+    l .loop .at + c .calm-run .result ≤ length (l .before .before .before .args .text .now)
 ends c =
     let l = c .before .before in
-    run-inside (l .before .before .before .args .text .now) (l .loop .at) (l .loop .calm) (c .run-of .result) (l .loop .inv .inside) (c .run-of .ensures)
+    run-inside (l .before .before .before .args .text .now) (l .loop .at) (l .loop .calm) (c .calm-run .result) (l .loop .inv .inside) (c .calm-run .ensures)
 
 add-end : tie.Need-add-end Inv-loop μ-loop
 add-end c = omega (arith, ends c, c .before .before .before .before .before .good)
@@ -71,12 +71,12 @@ ran : (s : tie.After-copy-run Inv-loop μ-loop)
     → let r = s .before .before .before in
     let l = r .before .before in
     let a = l .before .before .before .args in
-    Wrote utf8 utf8 (a .text .now) (a .out .now) (back (l .loop .out) (l .loop .done) (s .copy-run .last .1 .0)) (l .loop .at + r .run-of .result) (l .loop .done + r .run-of .result)
+    Wrote utf8 utf8 (a .text .now) (a .out .now) (back (l .loop .out) (l .loop .done) (s .copy-run .last .1 .0)) (l .loop .at + r .calm-run .result) (l .loop .done + r .calm-run .result)
 ran s =
     let r = s .before .before .before in
     let l = r .before .before in
     let z = l .before .before .before in
-    wrote-bytes (z .args .text .now) (l .loop .at) (l .loop .calm) (r .run-of .result) (l .loop .inv .inside) (r .run-of .ensures) (z .args .out .now) (l .loop .out) (l .loop .done)
+    wrote-bytes (z .args .text .now) (l .loop .at) (l .loop .calm) (r .calm-run .result) (l .loop .inv .inside) (r .calm-run .ensures) (z .args .out .now) (l .loop .out) (l .loop .done)
     (l .loop .inv) (z .pre) (s .copy-run .last .1 .0) (s .copy-run .ensures)
 
 add-done : tie.Need-add-done Inv-loop μ-loop
@@ -91,7 +91,7 @@ returns c =
     let r = s .before .before .before in
     let l = r .before .before in
     let a = l .before .before .before .args in
-    let e = wrote-end utf8 utf8 (a .text .now) (a .out .now) (back (l .loop .out) (l .loop .done) (s .copy-run .last .1 .0)) (l .loop .at + r .run-of .result) (l .loop .done + r .run-of .result)
+    let e = wrote-end utf8 utf8 (a .text .now) (a .out .now) (back (l .loop .out) (l .loop .done) (s .copy-run .last .1 .0)) (l .loop .at + r .calm-run .result) (l .loop .done + r .calm-run .result)
     (ran s) (c .if1 .taken) in
     record { count = e .0; output = e .1 }
 
@@ -121,8 +121,8 @@ mend-requires c κs =
     let l = r .before .before in
     let z = l .before .before .before in
     let t = z .args .text .now in (
-      omega (arith, ap length (part-is t (l .loop .at + r .run-of .result)) ∙ length-drop (l .loop .at + r .run-of .result) t, e .if1 .left),
-      rest-room utf8 utf8 t (z .args .out .now) (back (l .loop .out) (l .loop .done) (s .copy-run .last .1 .0)) (l .loop .at + r .run-of .result) (l .loop .done + r .run-of .result) (ran s) (z .pre),
+      omega (arith, ap length (part-is t (l .loop .at + r .calm-run .result)) ∙ length-drop (l .loop .at + r .calm-run .result) t, e .if1 .left),
+      rest-room utf8 utf8 t (z .args .out .now) (back (l .loop .out) (l .loop .done) (s .copy-run .last .1 .0)) (l .loop .at + r .calm-run .result) (l .loop .done + r .calm-run .result) (ran s) (z .pre),
     )
 
 -- and behind one segment more
@@ -132,14 +132,14 @@ after : (u : tie.After-mend Inv-loop μ-loop)
     let l = r .before .before in
     let a = l .before .before .before .args in
     Wrote utf8 utf8 (a .text .now) (a .out .now)
-    (back (back (l .loop .out) (l .loop .done) (s .copy-run .last .1 .0)) (l .loop .done + r .run-of .result) (u .mend .last .1 .1 .1 .0))
-    (l .loop .at + r .run-of .result + u .mend .result .passed) (l .loop .done + r .run-of .result + u .mend .result .put)
+    (back (back (l .loop .out) (l .loop .done) (s .copy-run .last .1 .0)) (l .loop .done + r .calm-run .result) (u .mend .last .1 .1 .1 .0))
+    (l .loop .at + r .calm-run .result + u .mend .result .passed) (l .loop .done + r .calm-run .result + u .mend .result .put)
 after u =
     let s = u .before .before .before .before .before .before in
     let r = s .before .before .before in
     let l = r .before .before in
     let z = l .before .before .before in
-    wrote-pass utf8 utf8 (z .args .text .now) (z .args .out .now) (back (l .loop .out) (l .loop .done) (s .copy-run .last .1 .0)) (l .loop .at + r .run-of .result) (l .loop .done + r .run-of .result)
+    wrote-pass utf8 utf8 (z .args .text .now) (z .args .out .now) (back (l .loop .out) (l .loop .done) (s .copy-run .last .1 .0)) (l .loop .at + r .calm-run .result) (l .loop .done + r .calm-run .result)
     (ran s) (z .pre) (u .mend .last .1 .1 .1 .0) _ _ (u .mend .ensures)
 
 add-at : tie.Need-add-at Inv-loop μ-loop
@@ -161,10 +161,10 @@ write-bytes-spec =
     Inv-loop
     μ-loop
     loop-holds
-    sub-run-of
-    part-run-of-start
-    part-run-of-end
-    run-of-requires
+    sub-calm-run
+    part-calm-run-start
+    part-calm-run-end
+    calm-run-requires
     add-end
     sub-copy-run
     part-copy-run-start
