@@ -8,10 +8,10 @@ extern "C" {
     fn bridge_bytes_repair_to_units(text: *const u8, n: usize, out: *mut u16, k: usize, says: *mut usize, m: usize) -> usize;
     fn bridge_units_to_bytes(text: *const u16, n: usize, out: *mut u8, k: usize, says: *mut usize, m: usize) -> usize;
     fn bridge_units_repair_to_bytes(text: *const u16, n: usize, out: *mut u8, k: usize, says: *mut usize, m: usize) -> usize;
-    fn bridge_build_feed(state: *mut usize, k: usize, piece: *const u8, n: usize, row: *mut u32, r: usize, says: *mut usize, m: usize) -> usize;
-    fn bridge_build_finish(state: *mut usize, k: usize, row: *mut u32, r: usize, says: *mut usize, m: usize) -> usize;
-    fn bridge_plain_unit(text: *const u8, n: usize, offset: usize, says: *mut usize, m: usize) -> usize;
-    fn bridge_index_unit(text: *const u8, n: usize, row: *const u32, k: usize, offset: usize, says: *mut usize, m: usize) -> usize;
+    fn bridge_index_feed(state: *mut usize, k: usize, piece: *const u8, n: usize, row: *mut u32, r: usize, says: *mut usize, m: usize) -> usize;
+    fn bridge_index_finish(state: *mut usize, k: usize, row: *mut u32, r: usize, says: *mut usize, m: usize) -> usize;
+    fn bridge_places_at_unit(text: *const u8, n: usize, offset: usize, says: *mut usize, m: usize) -> usize;
+    fn bridge_index_at_unit(text: *const u8, n: usize, row: *const u32, k: usize, offset: usize, says: *mut usize, m: usize) -> usize;
 }
 
 /// What a call told: the refusal's number and values, or 0 and what was granted.
@@ -60,15 +60,15 @@ pub fn index_size(length: usize) -> usize {
 pub fn build(text: &[u8], row: &mut [u32]) -> Said {
     let (mut state, r, k) = ([0usize; 8], row.as_mut_ptr(), row.len());
     let p = state.as_mut_ptr();
-    said(|s, m| unsafe { bridge_build_feed(p, 8, text.as_ptr(), text.len(), r, k, s, m) });
-    said(|s, m| unsafe { bridge_build_finish(p, 8, r, k, s, m) })
+    said(|s, m| unsafe { bridge_index_feed(p, 8, text.as_ptr(), text.len(), r, k, s, m) });
+    said(|s, m| unsafe { bridge_index_finish(p, 8, r, k, s, m) })
 }
 
 pub fn plain_unit(text: &[u8], offset: usize) -> Said {
-    said(|s, m| unsafe { bridge_plain_unit(text.as_ptr(), text.len(), offset, s, m) })
+    said(|s, m| unsafe { bridge_places_at_unit(text.as_ptr(), text.len(), offset, s, m) })
 }
 
 pub fn index_unit(text: &[u8], row: &[u32], offset: usize) -> Said {
     let (r, k) = (row.as_ptr(), row.len());
-    said(|s, m| unsafe { bridge_index_unit(text.as_ptr(), text.len(), r, k, offset, s, m) })
+    said(|s, m| unsafe { bridge_index_at_unit(text.as_ptr(), text.len(), r, k, offset, s, m) })
 }

@@ -1,5 +1,4 @@
 -- Whether a call is made: the tests of a state in a slice, of a place and a kind, and of the room to tell.
--- Assumes nothing.
 use mathlib.Core.Path.{_≡_, ap, _∙_}
 use Prim.Native.Nat.{ℕ, _≤_, _<_}
 use mathlib.Core.Bool.{Bool, true, false, _&&_}

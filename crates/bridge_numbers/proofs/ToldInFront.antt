@@ -1,5 +1,4 @@
 -- The telling: where there is room, so many of the numbers stand at the start of the slice.
--- Assumes nothing.
 use mathlib.Core.Path.{_≡_, refl, sym, ap, _∙_}
 use Prim.Native.Nat.{ℕ, zero, suc, min, _≤_, _<_}
 use native.Mathlib.Numerals.{add-one}

@@ -1,12 +1,11 @@
 -- A wrapper's promise, from what the wrapped call answered, what was said of it and the telling.
--- Assumes nothing.
 use mathlib.Core.Path.{_≡_, refl, _∙_, subst}
 use Prim.Native.Nat.{ℕ, _≤_, _<_}
 use mathlib.Core.Bool.{Bool, true, false, _&&_}
 use mathlib.Core.List.{List}
 use lib.ListN.{length}
 use borrow.Author.Tests.{le-leb, lt-leb}
-use Rattle.terms.specs.Told.{written}
+use Rattle.terms.specs.Told.{toldWritten}
 use Rattle.terms.specs.Writing as call
 use Rattle.terms.specs.declared.Written.{Written}
 use Rattle.bridge_numbers.specs.Telling.{saying, saidOf, roomy, notCalled, Tells}
@@ -36,7 +35,7 @@ pub unwritten : {said form out says : List ℕ} → length says < 8 → Writes (
 unwritten {says = says} h = rw (lt-leb 8 (length says) h) (record { tells = record { reply = refl; told = refl }; output = refl })
 
 pub wrote : {said form out out′ says says′ : List ℕ} {r : ℕ} {w : Written} {s : Said} → 8 ≤ length says
-    → call.Writes said form out out′ w → s ≡ saidOf (written w) → Tells (roomy says) (saying s) says says′ r
+    → call.Writes said form out out′ w → s ≡ saidOf (toldWritten w) → Tells (roomy says) (saying s) says says′ r
     → Writes (roomy says) said form out out′ says says′ r
 wrote {says = says} {w = v} h w s t =
     rw (le-leb 8 (length says) h) (record { tells = as-said (said-written v s ∙ w .answer) (roomed h t); output = w .output })

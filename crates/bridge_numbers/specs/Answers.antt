@@ -1,5 +1,4 @@
 -- What is said of held bytes and of a seam.
--- Assumes nothing.
 use Prim.Native.Nat.{ℕ}
 use mathlib.Core.List.{List, [], _∷_}
 use lib.ListN.{getD}

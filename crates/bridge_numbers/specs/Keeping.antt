@@ -1,5 +1,4 @@
 -- What a wrapped call leaves where a state stands: the next state; where nothing is called nothing is changed.
--- Assumes nothing.
 use Prim.Native.Nat.{ℕ}
 use mathlib.Core.Bool.{Bool, cond, _&&_}
 use mathlib.Core.List.{List}

@@ -1,5 +1,4 @@
 -- What a call tells: numbers in a lent slice, and how many they are.
--- Assumes nothing.
 use mathlib.Core.Path.{_≡_}
 use Prim.Native.Nat.{ℕ}
 use mathlib.Core.Bool.{Bool, cond}

@@ -1,5 +1,4 @@
 -- What a wrapped call leaves that writes: its output, and what is told of it; where it is not called nothing is changed.
--- Assumes nothing.
 use mathlib.Core.Path.{_≡_}
 use Prim.Native.Nat.{ℕ}
 use mathlib.Core.Bool.{Bool, cond}

@@ -1,6 +1,6 @@
 // What the library's calls answer, as numbers: what is said of each answer.
 use crate::telling::Said;
-use decoder::Begun;
+use decoder::Opening;
 use decoder::Total;
 use index_build::Building;
 use place::Placed;
@@ -13,15 +13,16 @@ use terms::Written;
 use utf8_pending::Seam;
 ghost use mathlib.Core.Path.{_≡_};
 ghost use mathlib.Core.List.{[], _∷_};
-ghost use Rattle.terms.specs.Told.{refusal, first, checked, written, bit};
-ghost use Rattle.decoder.specs.Feeding.{begun, total};
-ghost use Rattle.place.specs.Lookup.{placed};
-ghost use Rattle.index_build.specs.State.{building};
+ghost use Rattle.terms.specs.Told.{toldRefusal, toldFirst, toldChecked, toldWritten, bit};
+ghost use Rattle.decoder.specs.Feeding.{toldOpening, toldTotal};
+ghost use Rattle.place.specs.Lookup.{toldPlaced};
+ghost use Rattle.index_build.specs.State.{toldBuilding};
 ghost use Rattle.bridge_numbers.specs.Telling.{saidOf};
 ghost use Rattle.bridge_numbers.specs.Answers.{three, seamNumbers};
 
+// The number of the refusal, then its values.
 pub fn say_refusal(r: Refusal) -> Said
-    ensures { λ s. ⌜ s ≡ saidOf (refusal r) ⌝ }
+    ensures { λ s. ⌜ s ≡ saidOf (toldRefusal r) ⌝ }
 {
     match r {
         Refusal::Damaged { start, length } => Said {
@@ -63,8 +64,9 @@ pub fn say_refusal(r: Refusal) -> Said
     }
 }
 
+// 0, or the refusal.
 pub fn say_checked(a: Checked) -> Said
-    ensures { λ s. ⌜ s ≡ saidOf (checked a) ⌝ }
+    ensures { λ s. ⌜ s ≡ saidOf (toldChecked a) ⌝ }
 {
     match a {
         Checked::WellFormed => Said {
@@ -75,8 +77,9 @@ pub fn say_checked(a: Checked) -> Said
     }
 }
 
+// 0 and how many were written, or the refusal.
 pub fn say_written(a: Written) -> Said
-    ensures { λ s. ⌜ s ≡ saidOf (written a) ⌝ }
+    ensures { λ s. ⌜ s ≡ saidOf (toldWritten a) ⌝ }
 {
     match a {
         Written::Count(n) => Said {
@@ -87,8 +90,9 @@ pub fn say_written(a: Written) -> Said
     }
 }
 
+// Nothing of the empty text; else 0 whole or 1 damage, its size, and 1 where it is sure.
 pub fn say_first(a: First) -> Said
-    ensures { λ s. ⌜ s ≡ saidOf (first a) ⌝ }
+    ensures { λ s. ⌜ s ≡ saidOf (toldFirst a) ⌝ }
 {
     match a {
         First::Nothing => Said {
@@ -110,6 +114,7 @@ pub fn say_first(a: First) -> Said
     }
 }
 
+// The number of the code point, and its size.
 pub fn say_point(p: Point) -> Said
     ensures { λ s. ⌜ s ≡ saidOf (p .number ∷ p .size ∷ []) ⌝ }
 {
@@ -119,8 +124,9 @@ pub fn say_point(p: Point) -> Said
     }
 }
 
+// 0 and the four counts of the place, or the refusal.
 pub fn say_placed(a: Placed) -> Said
-    ensures { λ s. ⌜ s ≡ saidOf (placed a) ⌝ }
+    ensures { λ s. ⌜ s ≡ saidOf (toldPlaced a) ⌝ }
 {
     match a {
         Placed::At(p) => Said {
@@ -131,20 +137,22 @@ pub fn say_placed(a: Placed) -> Said
     }
 }
 
-pub fn say_begun(a: Begun) -> Said
-    ensures { λ s. ⌜ s ≡ saidOf (begun a) ⌝ }
+// 0, or the refusal.
+pub fn say_opening(a: Opening) -> Said
+    ensures { λ s. ⌜ s ≡ saidOf (toldOpening a) ⌝ }
 {
     match a {
-        Begun::Ready => Said {
+        Opening::Ready => Said {
             numbers: [0, 0, 0, 0, 0],
             count: 1,
         },
-        Begun::Refused(r) => say_refusal(r),
+        Opening::Refused(r) => say_refusal(r),
     }
 }
 
+// 0, how many were written, and the three totals; or the refusal.
 pub fn say_total(a: Total) -> Said
-    ensures { λ s. ⌜ s ≡ saidOf (total a) ⌝ }
+    ensures { λ s. ⌜ s ≡ saidOf (toldTotal a) ⌝ }
 {
     match a {
         Total::Given {
@@ -160,8 +168,9 @@ pub fn say_total(a: Total) -> Said
     }
 }
 
+// 0, or the refusal.
 pub fn say_building(a: Building) -> Said
-    ensures { λ s. ⌜ s ≡ saidOf (building a) ⌝ }
+    ensures { λ s. ⌜ s ≡ saidOf (toldBuilding a) ⌝ }
 {
     match a {
         Building::Done => Said {
@@ -172,6 +181,7 @@ pub fn say_building(a: Building) -> Said
     }
 }
 
+// The seam's size and its four bytes.
 pub fn say_seam(a: Seam) -> Said
     ensures { λ s. ⌜ s ≡ saidOf (seamNumbers a) ⌝ }
 {
@@ -188,6 +198,7 @@ pub fn say_seam(a: Seam) -> Said
     }
 }
 
+// The three held bytes.
 pub fn say_held(held: [u8; Decoder::PENDING]) -> Said
     ensures { λ s. ⌜ s ≡ saidOf (three held) ⌝ }
 {

@@ -44,12 +44,14 @@ fn number_at(numbers: &[usize], i: usize) -> usize
     numbers[i]
 }
 
+// Its last eight bits.
 fn byte_at(numbers: &[usize], i: usize) -> u8
     ensures { λ r. ⌜ r ≡ getD (now (numbers .entry)) i 0 % 256 ⌝ }
 {
     (number_at(numbers, i) % 256) as u8
 }
 
+// The three held bytes, each by its last eight bits.
 pub fn held_of(numbers: &[usize]) -> [u8; Decoder::PENDING]
     ensures { λ r. ⌜ r ≡ heldOf (now (numbers .entry)) ⌝ }
 {
@@ -60,6 +62,7 @@ pub fn held_of(numbers: &[usize]) -> [u8; Decoder::PENDING]
     ]
 }
 
+// The decoder's state: held, pending, taken, whole, damaged, count, room.
 pub fn decoder_of(numbers: &[usize]) -> Decoder
     ensures { λ r. ⌜ r ≡ decoderOf (now (numbers .entry)) ⌝ }
 {
@@ -87,7 +90,7 @@ fn copy(numbers: &[usize], out: &mut [usize])
     }
 }
 
-// Keeps a state in a slice that has the places for it.
+// Keeps a decoder's state in a slice that has the places for it.
 pub fn keep_decoder(d: Decoder, state: &mut [usize])
     ensures { λ r. ⌜ now (state .exit) ≡ kept 9 (decoderNumbers d) (now (state .entry)) ⌝ }
 {
@@ -109,6 +112,7 @@ pub fn keep_decoder(d: Decoder, state: &mut [usize])
     copy(&numbers, state);
 }
 
+// The builder's state: held, pending, taken, units, points, lines.
 pub fn builder_of(numbers: &[usize]) -> Builder
     ensures { λ r. ⌜ r ≡ builderOf (now (numbers .entry)) ⌝ }
 {
@@ -123,6 +127,7 @@ pub fn builder_of(numbers: &[usize]) -> Builder
     }
 }
 
+// Keeps a builder's state in a slice that has the places for it.
 pub fn keep_builder(b: Builder, state: &mut [usize])
     ensures { λ r. ⌜ now (state .exit) ≡ kept 8 (builderNumbers b) (now (state .entry)) ⌝ }
 {
@@ -143,6 +148,7 @@ pub fn keep_builder(b: Builder, state: &mut [usize])
     copy(&numbers, state);
 }
 
+// A place: bytes, units, code points, lines.
 pub fn place_of(numbers: &[usize]) -> Place
     ensures { λ r. ⌜ r ≡ placeOf (now (numbers .entry)) ⌝ }
 {
@@ -170,7 +176,7 @@ pub fn offset_of(kind: usize, n: usize) -> Offset
     Offset::Line(Lines(n))
 }
 
-// 0 nothing, 1 whole, 2 damage, else begun.
+// What stands first, of a size: 0 nothing, 1 whole, 2 damage, else begun.
 pub fn first_of(kind: usize, n: usize) -> First
     ensures { λ r. ⌜ r ≡ firstOf kind n ⌝ }
 {

@@ -1,5 +1,4 @@
 -- The promise of a call that takes the state of a builder from a slice and puts the next one there.
--- Assumes nothing.
 use mathlib.Core.Path.{_≡_, refl, ap, _∙_}
 use Prim.Native.Nat.{ℕ, _≤_}
 use mathlib.Core.Bool.{Bool, true, false}
@@ -14,7 +13,7 @@ use Rattle.bridge_numbers.specs.States.{kept, builderNumbers}
 use Rattle.bridge_numbers.specs.declared.telling.Said.{Said}
 use Rattle.bridge_numbers.proofs.HoldsState.{kept-long}
 use Rattle.bridge_numbers.proofs.WrapperTells.{as-said}
-use Rattle.bridge_numbers.proofs.EachAnswerSaid.{said-building}
+use Rattle.bridge_numbers.proofs.AllSaid.{said-building}
 use Rattle.bridge_places.specs.Keeping.{Freshens, Builds, Ends}
 
 pub unfreshened : {called : Bool} {state : List ℕ} → called ≡ false → Freshens called state state notCalled
@@ -31,7 +30,7 @@ unbuilt e = rw e (record { tells = record { reply = refl; told = refl }; next = 
 
 pub was-built : {called : Bool} {b q : Builder} {piece row row′ state state′ says says′ : List ℕ} {r : ℕ} {f : Built} {s : Said}
     → called ≡ true → q ≡ b → build.Feeds q piece row row′ f → 8 ≤ length state → state′ ≡ kept 8 (builderNumbers (f .state)) state
-    → s ≡ saidOf (builder.building (f .answer)) → Tells true (saying s) says says′ r
+    → s ≡ saidOf (builder.toldBuilding (f .answer)) → Tells true (saying s) says says′ r
     → Builds called b piece row row′ state state′ says says′ r
 was-built {state = state} {f = v} e q f long k s t =
     rw (e, ← q)
@@ -47,7 +46,7 @@ unended e = rw e (record { tells = record { reply = refl; told = refl }; next = 
 
 pub was-ended : {called : Bool} {b q : Builder} {row row′ state state′ says says′ : List ℕ} {r : ℕ} {f : Built} {s : Said}
     → called ≡ true → q ≡ b → build.Finishes q row row′ f → 8 ≤ length state → state′ ≡ kept 8 (builderNumbers (f .state)) state
-    → s ≡ saidOf (builder.building (f .answer)) → Tells true (saying s) says says′ r
+    → s ≡ saidOf (builder.toldBuilding (f .answer)) → Tells true (saying s) says says′ r
     → Ends called b row row′ state state′ says says′ r
 was-ended {state = state} {f = v} e q f long k s t =
     rw (e, ← q)

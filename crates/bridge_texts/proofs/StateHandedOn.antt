@@ -1,11 +1,10 @@
 -- The promise of a call that takes the state of a decoder from a slice and puts the next one there.
--- Assumes nothing.
 use mathlib.Core.Path.{_≡_, refl, ap, _∙_}
 use Prim.Native.Nat.{ℕ, _≤_}
 use mathlib.Core.Bool.{Bool, true, false}
 use mathlib.Core.List.{List}
 use lib.ListN.{length}
-use Rattle.terms.specs.Told.{written}
+use Rattle.terms.specs.Told.{toldWritten}
 use Rattle.terms.specs.declared.Decoder.{Decoder}
 use Rattle.decoder.specs.Feeding as call
 use Rattle.decoder.specs.declared.Started.{Started}
@@ -17,19 +16,18 @@ use Rattle.bridge_numbers.specs.Telling.{saying, saidOf, put, notCalled, Tells}
 use Rattle.bridge_numbers.specs.States.{kept, decoderNumbers}
 use Rattle.bridge_numbers.specs.declared.telling.Said.{Said}
 use Rattle.bridge_numbers.proofs.HoldsState.{kept-long}
-use Rattle.bridge_numbers.proofs.AllSaid.{said-written}
+use Rattle.bridge_numbers.proofs.AllSaid.{said-written, said-opening, said-total}
 use Rattle.bridge_numbers.proofs.WrapperTells.{as-said}
-use Rattle.bridge_numbers.proofs.EachAnswerSaid.{said-begun, said-total}
 use Rattle.bridge_texts.specs.Keeping.{Starts, Feeds, Finishes, Watches}
 
 pub unstarted : {called : Bool} {room : ℕ} {state says : List ℕ} → called ≡ false → Starts called room state state says says notCalled
 unstarted e = rw e (record { tells = record { reply = refl; told = refl }; next = refl })
 
 pub started : {called : Bool} {room : ℕ} {state state′ says says′ : List ℕ} {r : ℕ} {f : Started} {s : Said} → called ≡ true
-    → call.Starts room f → 9 ≤ length state → state′ ≡ kept 9 (decoderNumbers (f .state)) state → s ≡ saidOf (call.begun (f .answer))
+    → call.Starts room f → 9 ≤ length state → state′ ≡ kept 9 (decoderNumbers (f .state)) state → s ≡ saidOf (call.toldOpening (f .answer))
     → Tells true (saying s) says says′ r → Starts called room state state′ says says′ r
 started {state = state} {f = v} e f long k s t =
-    rw e (record { tells = as-said (said-begun (v .answer) s ∙ f .answer) t; next = k ∙ kept-long 9 state (decoderNumbers (v .state)) long ∙ ap (λ (d : Decoder). put (decoderNumbers d) state) (f .state) })
+    rw e (record { tells = as-said (said-opening (v .answer) s ∙ f .answer) t; next = k ∙ kept-long 9 state (decoderNumbers (v .state)) long ∙ ap (λ (d : Decoder). put (decoderNumbers d) state) (f .state) })
 
 pub unfed : {called : Bool} {d : Decoder} {piece out list state says : List ℕ} → called ≡ false
     → Feeds called d piece out list out list state state says says notCalled
@@ -37,7 +35,7 @@ unfed e = rw e (record { tells = record { reply = refl; told = refl }; next = re
 
 pub was-fed : {called : Bool} {d q : Decoder} {piece out list out′ list′ state state′ says says′ : List ℕ} {r : ℕ} {f : Fed} {s : Said}
     → called ≡ true → q ≡ d → call.Feeds q piece out list out′ list′ f → 9 ≤ length state → state′ ≡ kept 9 (decoderNumbers (f .state)) state
-    → s ≡ saidOf (written (f .answer)) → Tells true (saying s) says says′ r
+    → s ≡ saidOf (toldWritten (f .answer)) → Tells true (saying s) says says′ r
     → Feeds called d piece out list out′ list′ state state′ says says′ r
 was-fed {state = state} {f = v} e q f long k s t =
     rw (e, ← q)
@@ -54,7 +52,7 @@ unfinished e = rw e (record { tells = record { reply = refl; told = refl }; next
 
 pub was-finished : {called : Bool} {d q : Decoder} {out list out′ list′ state state′ says says′ : List ℕ} {r : ℕ} {f : Finished} {s : Said}
     → called ≡ true → q ≡ d → call.Finishes q out list out′ list′ f → 9 ≤ length state → state′ ≡ kept 9 (decoderNumbers (f .state)) state
-    → s ≡ saidOf (call.total (f .answer)) → Tells true (saying s) says says′ r
+    → s ≡ saidOf (call.toldTotal (f .answer)) → Tells true (saying s) says says′ r
     → Finishes called d out list out′ list′ state state′ says says′ r
 was-finished {state = state} {f = v} e q f long k s t =
     rw (e, ← q)

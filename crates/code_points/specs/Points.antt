@@ -1,5 +1,4 @@
 -- Texts of code points: each number is a segment, whole if it is a scalar value.
--- Assumes nothing.
 use Prim.Native.Nat.{ℕ}
 use mathlib.Core.Bool.{true, cond}
 use mathlib.Core.List.{List, [], _∷_}
@@ -18,8 +17,8 @@ number [] = 0
 number (x ∷ xs) = x
 
 -- code points as a form of text
-abbrev pub codes : Form
-codes = record { look = points; value = number; write = λ c. c ∷ [] }
+abbrev pub codePoints : Form
+codePoints = record { look = points; value = number; write = λ c. c ∷ [] }
 
 -- refusal 9 tells the position of the first number that is no scalar value
 abbrev pub noScalar : Entry Kind → List ℕ

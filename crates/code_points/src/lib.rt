@@ -7,8 +7,8 @@ use terms::Refusal;
 ghost use mathlib.Core.Path.{_≡_};
 ghost use mathlib.Core.List.{[], _∷_};
 ghost use Rattle.terms.specs.Form.{isScalar, pointSays};
-ghost use Rattle.terms.specs.Told.{first, firstSays, checked};
-ghost use Rattle.code_points.specs.Points.{points, codes, pointsSay};
+ghost use Rattle.terms.specs.Told.{toldFirst, firstSays, toldChecked};
+ghost use Rattle.code_points.specs.Points.{points, codePoints, pointsSay};
 
 // Is a number a scalar value?
 fn is_scalar(c: u32) -> bool
@@ -19,7 +19,7 @@ fn is_scalar(c: u32) -> bool
 
 // The segment that stands first in a text: a scalar value is whole, and any other number is damage.
 pub fn segment(text: &[u32]) -> First
-    ensures { λ r. ⌜ first r ≡ firstSays points (now (text .entry)) ⌝ }
+    ensures { λ r. ⌜ toldFirst r ≡ firstSays points (now (text .entry)) ⌝ }
 {
     if text.len() == 0 {
         return First::Nothing;
@@ -32,7 +32,7 @@ pub fn segment(text: &[u32]) -> First
 
 // The code point that stands first in a text.
 pub fn point(text: &[u32]) -> Point
-    ensures { λ r. ⌜ r .number ∷ r .size ∷ [] ≡ pointSays codes (now (text .entry)) ⌝ }
+    ensures { λ r. ⌜ r .number ∷ r .size ∷ [] ≡ pointSays codePoints (now (text .entry)) ⌝ }
 {
     match segment(text) {
         First::Nothing => Point { number: 0, size: 0 },
@@ -53,7 +53,7 @@ pub fn point(text: &[u32]) -> Point
 
 // Is every number of a text a scalar value? If not, the position of the first that is none is told.
 pub fn check(text: &[u32]) -> Checked
-    ensures { λ r. ⌜ checked r ≡ pointsSay (now (text .entry)) ⌝ }
+    ensures { λ r. ⌜ toldChecked r ≡ pointsSay (now (text .entry)) ⌝ }
 {
     if Decoder::LIMIT < text.len() {
         return Checked::Refused(Refusal::OverLimit);

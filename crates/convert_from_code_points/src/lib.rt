@@ -1,7 +1,6 @@
 // A whole text of code points as bytes and as units, strict, into a lent output.
 use convert_point::Target;
 use terms::Checked;
-use terms::Decoder;
 use terms::Refusal;
 use terms::Written;
 ghost use mathlib.Core.Path.{_≡_};
@@ -9,17 +8,17 @@ ghost use Prim.Native.Nat.{_≤_};
 ghost use lib.ListN.{length};
 ghost use Rattle.terms.specs.Limits.{limit};
 ghost use Rattle.terms.specs.Form.{converted};
-ghost use Rattle.terms.specs.Writing.{Writes, repairSays, convertSays};
+ghost use Rattle.terms.specs.Writing.{Writes, roomed, convertSays};
 ghost use Rattle.utf8.specs.Scalar.{utf8};
 ghost use Rattle.utf16.specs.Scalar.{utf16};
-ghost use Rattle.code_points.specs.Points.{codes, noScalar};
+ghost use Rattle.code_points.specs.Points.{codePoints, noScalar};
 ghost use Rattle.convert_point.specs.Target.{formOf};
 ghost use Rattle.convert_point.specs.Puts.{Puts};
 
 // How many places a text takes in another form.
 fn need(text: &[u32], target: Target) -> usize
     requires { ⌜ length (now text) ≤ limit ⌝ }
-    ensures { λ r. ⌜ r ≡ length (converted codes (formOf target) (now (text .entry))) ⌝ }
+    ensures { λ r. ⌜ r ≡ length (converted codePoints (formOf target) (now (text .entry))) ⌝ }
 {
     let mut at: usize = 0;
     let mut total: usize = 0;
@@ -31,9 +30,10 @@ fn need(text: &[u32], target: Target) -> usize
     total
 }
 
+// The text as bytes, U+FFFD for each damage.
 fn write_bytes(text: &[u32], out: &mut [u8]) -> usize
-    requires { ⌜ length (converted codes utf8 (now text)) ≤ length (now out) ⌝ }
-    ensures { λ r. ⌜ Puts (converted codes utf8 (now (text .entry))) (now (out .entry)) (now (out .exit)) r ⌝ }
+    requires { ⌜ length (converted codePoints utf8 (now text)) ≤ length (now out) ⌝ }
+    ensures { λ r. ⌜ Puts (converted codePoints utf8 (now (text .entry))) (now (out .entry)) (now (out .exit)) r ⌝ }
 {
     let mut at: usize = 0;
     let mut done: usize = 0;
@@ -45,9 +45,10 @@ fn write_bytes(text: &[u32], out: &mut [u8]) -> usize
     done
 }
 
+// The text as units, U+FFFD for each damage.
 fn write_units(text: &[u32], out: &mut [u16]) -> usize
-    requires { ⌜ length (converted codes utf16 (now text)) ≤ length (now out) ⌝ }
-    ensures { λ r. ⌜ Puts (converted codes utf16 (now (text .entry))) (now (out .entry)) (now (out .exit)) r ⌝ }
+    requires { ⌜ length (converted codePoints utf16 (now text)) ≤ length (now out) ⌝ }
+    ensures { λ r. ⌜ Puts (converted codePoints utf16 (now (text .entry))) (now (out .entry)) (now (out .exit)) r ⌝ }
 {
     let mut at: usize = 0;
     let mut done: usize = 0;
@@ -59,18 +60,16 @@ fn write_units(text: &[u32], out: &mut [u16]) -> usize
     done
 }
 
-// In the other form, U+FFFD for each damage.
-fn repair_to_bytes(text: &[u32], out: &mut [u8]) -> Written
+// The text as bytes, or its need where the output has no room for them.
+fn fit_bytes(text: &[u32], out: &mut [u8]) -> Written
+    requires { ⌜ length (now text) ≤ limit ⌝ }
     ensures { λ r. ⌜ Writes
-        (repairSays (length (now (out .entry))) (now (text .entry)) (converted codes utf8 (now (text .entry))))
-        (converted codes utf8 (now (text .entry)))
+        (roomed (length (now (out .entry))) (converted codePoints utf8 (now (text .entry))))
+        (converted codePoints utf8 (now (text .entry)))
         (now (out .entry))
         (now (out .exit))
         r ⌝ }
 {
-    if Decoder::LIMIT < text.len() {
-        return Written::Refused(Refusal::OverLimit);
-    }
     let bytes = need(text, Target::Bytes);
     if out.len() < bytes {
         return Written::Refused(Refusal::NoRoom { needed: bytes });
@@ -78,18 +77,16 @@ fn repair_to_bytes(text: &[u32], out: &mut [u8]) -> Written
     Written::Count(write_bytes(text, out))
 }
 
-// In the other form, U+FFFD for each damage.
-fn repair_to_units(text: &[u32], out: &mut [u16]) -> Written
+// The text as units, or its need where the output has no room for them.
+fn fit_units(text: &[u32], out: &mut [u16]) -> Written
+    requires { ⌜ length (now text) ≤ limit ⌝ }
     ensures { λ r. ⌜ Writes
-        (repairSays (length (now (out .entry))) (now (text .entry)) (converted codes utf16 (now (text .entry))))
-        (converted codes utf16 (now (text .entry)))
+        (roomed (length (now (out .entry))) (converted codePoints utf16 (now (text .entry))))
+        (converted codePoints utf16 (now (text .entry)))
         (now (out .entry))
         (now (out .exit))
         r ⌝ }
 {
-    if Decoder::LIMIT < text.len() {
-        return Written::Refused(Refusal::OverLimit);
-    }
     let units = need(text, Target::Units);
     if out.len() < units {
         return Written::Refused(Refusal::NoRoom { needed: units });
@@ -97,32 +94,32 @@ fn repair_to_units(text: &[u32], out: &mut [u16]) -> Written
     Written::Count(write_units(text, out))
 }
 
-// Strict: damage is refused.
+// The text as bytes; strict, so that a number that is no scalar value is refused.
 pub fn to_bytes(text: &[u32], out: &mut [u8]) -> Written
     ensures { λ r. ⌜ Writes
-        (convertSays noScalar codes utf8 (length (now (out .entry))) (now (text .entry)))
-        (converted codes utf8 (now (text .entry)))
+        (convertSays noScalar codePoints utf8 (length (now (out .entry))) (now (text .entry)))
+        (converted codePoints utf8 (now (text .entry)))
         (now (out .entry))
         (now (out .exit))
         r ⌝ }
 {
     match code_points::check(text) {
-        Checked::WellFormed => repair_to_bytes(text, out),
+        Checked::WellFormed => fit_bytes(text, out),
         Checked::Refused(r) => Written::Refused(r),
     }
 }
 
-// Strict: damage is refused.
+// The text as units; strict, so that a number that is no scalar value is refused.
 pub fn to_units(text: &[u32], out: &mut [u16]) -> Written
     ensures { λ r. ⌜ Writes
-        (convertSays noScalar codes utf16 (length (now (out .entry))) (now (text .entry)))
-        (converted codes utf16 (now (text .entry)))
+        (convertSays noScalar codePoints utf16 (length (now (out .entry))) (now (text .entry)))
+        (converted codePoints utf16 (now (text .entry)))
         (now (out .entry))
         (now (out .exit))
         r ⌝ }
 {
     match code_points::check(text) {
-        Checked::WellFormed => repair_to_units(text, out),
+        Checked::WellFormed => fit_units(text, out),
         Checked::Refused(r) => Written::Refused(r),
     }
 }

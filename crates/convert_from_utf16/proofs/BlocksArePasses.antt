@@ -1,5 +1,4 @@
--- Units as bytes: a block of plain units is a pass.
--- Assumes nothing.
+-- Units as bytes: a block of alone units is a pass.
 use mathlib.Core.Path.{_≡_, ap, _∙_}
 use Prim.Native.Nat.{ℕ, _≤_, _<_}
 use mathlib.Core.Bool.{true}
@@ -9,14 +8,14 @@ use native.Mathlib.Omega.{arith}
 use Rattle.terms.specs.Form.{converted}
 use Rattle.utf8.specs.Scalar.{utf8}
 use Rattle.utf16.specs.Scalar.{utf16}
-use Rattle.utf16.specs.Plain.{plain}
-use Rattle.utf16.proofs.PlainDivides.{converted-plain}
+use Rattle.utf16.specs.Alone.{allAlone}
+use Rattle.utf16.proofs.AloneDivides.{converted-alone}
 use Rattle.convert_utf16_blocks.specs.Block.{bytesOf}
-use Rattle.convert_point.specs.Passes.{Passes, PassesTo}
+use Rattle.convert_point.specs.Inside.Passes.{Passes, PassesTo}
 
-module _ (text xs : List ℕ) (p : plain xs ≡ true) (e : text ≡ xs ++ drop (length xs) text) where
+module _ (text xs : List ℕ) (p : allAlone xs ≡ true) (e : text ≡ xs ++ drop (length xs) text) where
   block-parted : converted utf16 utf8 text ≡ bytesOf xs ++ converted utf16 utf8 (drop (length xs) text)
-  block-parted = ap (converted utf16 utf8) e ∙ converted-plain utf8 xs (drop (length xs) text) p
+  block-parted = ap (converted utf16 utf8) e ∙ converted-alone utf8 xs (drop (length xs) text) p
 
   module _ (read places : ℕ) (r : read ≡ length xs) (n : places ≡ length (bytesOf xs)) (some : 0 < read) where
     pub block-passes : Passes utf16 utf8 text read places

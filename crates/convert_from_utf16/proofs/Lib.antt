@@ -1,1 +1,2 @@
+-- Units as bytes: a block of alone units is a pass
 pub mod BlocksArePasses

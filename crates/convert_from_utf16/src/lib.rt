@@ -12,13 +12,13 @@ ghost use lib.ListN.{length};
 ghost use Rattle.terms.specs.Limits.{limit};
 ghost use Rattle.terms.specs.Form.{isScalar, repaired, converted};
 ghost use Rattle.terms.specs.Strict.{damaged};
-ghost use Rattle.terms.specs.Writing.{Writes, repairSays, convertSays};
+ghost use Rattle.terms.specs.Writing.{Writes, roomed, repairSays, convertSays};
 ghost use Rattle.utf8.specs.Scalar.{sequence, utf8};
 ghost use Rattle.utf16.specs.Scalar.{utf16};
-ghost use Rattle.code_points.specs.Points.{codes};
+ghost use Rattle.code_points.specs.Points.{codePoints};
 ghost use Rattle.convert_point.specs.Target.{formOf};
 ghost use Rattle.convert_point.specs.Puts.{Puts};
-ghost use Rattle.convert_point.specs.Passes.{Passes, PassesTo};
+ghost use Rattle.convert_point.specs.Inside.Passes.{Passes, PassesTo};
 
 // How many places a text takes in another form.
 fn need(text: &[u16], target: Target) -> usize
@@ -53,7 +53,7 @@ fn count_segments(text: &[u16], stop: usize) -> Part
     }
 }
 
-// A block of plain units at once, or the code points that begin in as many units.
+// How many bytes the beginning of a text takes: a block of units that stand alone at once, or the code points that begin in its length.
 fn count_part(text: &[u16]) -> Part
     requires { ⌜ (0 < length (now text)) × (length (now text) ≤ limit) ⌝ }
     ensures { λ r. ⌜ Passes utf16 utf8 (now (text .entry)) (r .read) (r .places) ⌝ }
@@ -112,6 +112,7 @@ fn put_sequence(out: &mut [u8], c: u32) -> usize
     4
 }
 
+// The bytes of the code points that begin in front of a place.
 fn write_segments(text: &[u16], stop: usize, out: &mut [u8]) -> Part
     requires { ⌜ (0 < stop) × (stop ≤ length (now text)) × (length (converted utf16 utf8 (now text)) ≤ length (now out)) ⌝ }
     ensures { λ r. ⌜ PassesTo utf16 utf8 (now (text .entry)) (now (out .entry)) (now (out .exit)) (r .read) (r .places) ⌝ }
@@ -129,12 +130,12 @@ fn write_segments(text: &[u16], stop: usize, out: &mut [u8]) -> Part
     }
 }
 
-// 16 units below 80 at once, or the code points that begin in as many units as a block has.
-fn write_few(text: &[u16], out: &mut [u8]) -> Part
+// The bytes of the beginning of a text: 16 units below 0x80 at once, or the code points that begin in a block's length.
+fn write_sixteen(text: &[u16], out: &mut [u8]) -> Part
     requires { ⌜ (0 < length (now text)) × (length (converted utf16 utf8 (now text)) ≤ length (now out)) ⌝ }
     ensures { λ r. ⌜ PassesTo utf16 utf8 (now (text .entry)) (now (out .entry)) (now (out .exit)) (r .read) (r .places) ⌝ }
 {
-    let p = convert_utf16_blocks::put_few(text, out);
+    let p = convert_utf16_blocks::put_sixteen(text, out);
     if 0 < p.read {
         return p;
     }
@@ -145,7 +146,7 @@ fn write_few(text: &[u16], out: &mut [u8]) -> Part
     write_segments(text, 128, out)
 }
 
-// A block of plain units at once, or a few.
+// The bytes of the beginning of a text: a block of units that stand alone at once, or less.
 fn write_part(text: &[u16], out: &mut [u8]) -> Part
     requires { ⌜ (0 < length (now text)) × (length (converted utf16 utf8 (now text)) ≤ length (now out)) ⌝ }
     ensures { λ r. ⌜ PassesTo utf16 utf8 (now (text .entry)) (now (out .entry)) (now (out .exit)) (r .read) (r .places) ⌝ }
@@ -154,9 +155,10 @@ fn write_part(text: &[u16], out: &mut [u8]) -> Part
     if 0 < p.read {
         return p;
     }
-    write_few(text, out)
+    write_sixteen(text, out)
 }
 
+// The text as bytes, part by part.
 fn write_bytes(text: &[u16], out: &mut [u8]) -> usize
     requires { ⌜ length (converted utf16 utf8 (now text)) ≤ length (now out) ⌝ }
     ensures { λ r. ⌜ Puts (converted utf16 utf8 (now (text .entry))) (now (out .entry)) (now (out .exit)) r ⌝ }
@@ -171,6 +173,7 @@ fn write_bytes(text: &[u16], out: &mut [u8]) -> usize
     done
 }
 
+// The text as units, U+FFFD for each damage.
 fn write_units(text: &[u16], out: &mut [u16]) -> usize
     requires { ⌜ length (converted utf16 utf16 (now text)) ≤ length (now out) ⌝ }
     ensures { λ r. ⌜ Puts (converted utf16 utf16 (now (text .entry))) (now (out .entry)) (now (out .exit)) r ⌝ }
@@ -185,21 +188,22 @@ fn write_units(text: &[u16], out: &mut [u16]) -> usize
     done
 }
 
-fn write_codes(text: &[u16], out: &mut [u32]) -> usize
-    requires { ⌜ length (converted utf16 codes (now text)) ≤ length (now out) ⌝ }
-    ensures { λ r. ⌜ Puts (converted utf16 codes (now (text .entry))) (now (out .entry)) (now (out .exit)) r ⌝ }
+// The text as code points, U+FFFD for each damage.
+fn write_points(text: &[u16], out: &mut [u32]) -> usize
+    requires { ⌜ length (converted utf16 codePoints (now text)) ≤ length (now out) ⌝ }
+    ensures { λ r. ⌜ Puts (converted utf16 codePoints (now (text .entry))) (now (out .entry)) (now (out .exit)) r ⌝ }
 {
     let mut at: usize = 0;
     let mut done: usize = 0;
     while at < text.len() {
         let p = utf16::point(&text[at..]);
-        done += convert_point::put_code(&mut out[done..], p.number);
+        done += convert_point::put_point(&mut out[done..], p.number);
         at += p.size;
     }
     done
 }
 
-// In the other form, U+FFFD for each damage.
+// The text as bytes, with U+FFFD for each damage.
 pub fn repair_to_bytes(text: &[u16], out: &mut [u8]) -> Written
     ensures { λ r. ⌜ Writes
         (repairSays (length (now (out .entry))) (now (text .entry)) (converted utf16 utf8 (now (text .entry))))
@@ -221,7 +225,7 @@ pub fn repair_to_bytes(text: &[u16], out: &mut [u8]) -> Written
     Written::Count(write_bytes(text, out))
 }
 
-// Whole segments as they are, U+FFFD for each damage.
+// The repaired form of a text: whole segments as they are, U+FFFD for each damage.
 pub fn repair(text: &[u16], out: &mut [u16]) -> Written
     ensures { λ r. ⌜ Writes
         (repairSays (length (now (out .entry))) (now (text .entry)) (repaired utf16 (now (text .entry))))
@@ -240,26 +244,24 @@ pub fn repair(text: &[u16], out: &mut [u16]) -> Written
     Written::Count(write_units(text, out))
 }
 
-// In the other form, U+FFFD for each damage.
-fn repair_to_codes(text: &[u16], out: &mut [u32]) -> Written
+// The text as code points, or its need where the output has no room for them.
+fn fit_points(text: &[u16], out: &mut [u32]) -> Written
+    requires { ⌜ length (now text) ≤ limit ⌝ }
     ensures { λ r. ⌜ Writes
-        (repairSays (length (now (out .entry))) (now (text .entry)) (converted utf16 codes (now (text .entry))))
-        (converted utf16 codes (now (text .entry)))
+        (roomed (length (now (out .entry))) (converted utf16 codePoints (now (text .entry))))
+        (converted utf16 codePoints (now (text .entry)))
         (now (out .entry))
         (now (out .exit))
         r ⌝ }
 {
-    if Decoder::LIMIT < text.len() {
-        return Written::Refused(Refusal::OverLimit);
+    let points = need(text, Target::Points);
+    if out.len() < points {
+        return Written::Refused(Refusal::NoRoom { needed: points });
     }
-    let codes = need(text, Target::Codes);
-    if out.len() < codes {
-        return Written::Refused(Refusal::NoRoom { needed: codes });
-    }
-    Written::Count(write_codes(text, out))
+    Written::Count(write_points(text, out))
 }
 
-// Strict: damage is refused.
+// The text as bytes; strict, so that damage is refused.
 pub fn to_bytes(text: &[u16], out: &mut [u8]) -> Written
     ensures { λ r. ⌜ Writes
         (convertSays damaged utf16 utf8 (length (now (out .entry))) (now (text .entry)))
@@ -274,17 +276,17 @@ pub fn to_bytes(text: &[u16], out: &mut [u8]) -> Written
     }
 }
 
-// Strict: damage is refused.
-pub fn to_codes(text: &[u16], out: &mut [u32]) -> Written
+// The text as code points; strict, so that damage is refused.
+pub fn to_points(text: &[u16], out: &mut [u32]) -> Written
     ensures { λ r. ⌜ Writes
-        (convertSays damaged utf16 codes (length (now (out .entry))) (now (text .entry)))
-        (converted utf16 codes (now (text .entry)))
+        (convertSays damaged utf16 codePoints (length (now (out .entry))) (now (text .entry)))
+        (converted utf16 codePoints (now (text .entry)))
         (now (out .entry))
         (now (out .exit))
         r ⌝ }
 {
     match utf16_check::check(text) {
-        Checked::WellFormed => repair_to_codes(text, out),
+        Checked::WellFormed => fit_points(text, out),
         Checked::Refused(r) => Written::Refused(r),
     }
 }

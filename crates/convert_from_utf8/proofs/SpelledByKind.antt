@@ -1,5 +1,4 @@
--- What a text spells: by the kind of its first byte, over its plain beginning, and how much it is at most.
--- Assumes nothing.
+-- What a text spells: by the kind of its first byte, over its ascii beginning, and how much it is at most.
 use mathlib.Core.Path.{_≡_, refl, sym, ap, _∙_}
 use Prim.Native.Nat.{ℕ, zero, suc, _+_, _-_, _≤_, _<_}
 use native.Mathlib.Numerals.{add-one}
@@ -10,8 +9,8 @@ use borrow.Author.Tests.{lt-ltb, le-ltb, le-leb, lt-leb}
 use native.Mathlib.Omega.{arith}
 use Rattle.theory.proofs.Cases.{under, by-ends, add-swap}
 use Rattle.terms.proofs.WalkWrites.{Passed}
-use Rattle.convert_from_utf8.specs.Spell.{wants, two, three, firstHalf, secondHalf, units, spelledFrom, spelled}
-use Rattle.convert_from_utf8.specs.Stride.{Short, Plain}
+use Rattle.convert_from_utf8.specs.Inside.Spell.{wants, unitsOf, two, three, firstHalf, secondHalf, units, spelledFrom, spelled}
+use Rattle.convert_from_utf8.specs.Inside.Stride.{Short, Ascii}
 
 -- ---- of any text: the equations, after which nothing looks at the recursion
 
@@ -38,42 +37,59 @@ spelled-short x xs h = rw (lt-leb (wants x) (length xs) h)
 
 -- ---- by the kind of the first byte
 
-module _ (a b c d : ℕ) where
-  pub one-is : a < 0x80 → (wants a ≡ 0) × (units a b c d ≡ a ∷ [])
-  unfolding wants units
-  one-is h = rw (lt-ltb a 0x80 h) (refl, refl)
+module _ (a : ℕ) where
+  pub wants-none : a < 0x80 → wants a ≡ 0
+  unfolding wants
+  wants-none h = rw (lt-ltb a 0x80 h)
 
-  pub two-is : 0x80 ≤ a → a < 0xE0 → (wants a ≡ 1) × (units a b c d ≡ two a b ∷ [])
-  unfolding wants units
-  two-is l h = rw (le-ltb a 0x80 l, lt-ltb a 0xE0 h) (refl, refl)
+  pub wants-one : 0x80 ≤ a → a < 0xE0 → wants a ≡ 1
+  unfolding wants
+  wants-one l h = rw (le-ltb a 0x80 l, lt-ltb a 0xE0 h)
 
-  pub three-is : 0xE0 ≤ a → a < 0xF0 → (wants a ≡ 2) × (units a b c d ≡ three a b c ∷ [])
-  unfolding wants units
-  three-is l h = rw (le-ltb a 0x80 (omega arith), le-ltb a 0xE0 l, lt-ltb a 0xF0 h) (refl, refl)
+  pub wants-two : 0xE0 ≤ a → a < 0xF0 → wants a ≡ 2
+  unfolding wants
+  wants-two l h = rw (le-ltb a 0x80 (omega arith), le-ltb a 0xE0 l, lt-ltb a 0xF0 h)
 
-  pub four-is : 0xF0 ≤ a → (wants a ≡ 3) × (units a b c d ≡ firstHalf a b c ∷ secondHalf c d ∷ [])
-  unfolding wants units
-  four-is l = rw (le-ltb a 0x80 (omega arith), le-ltb a 0xE0 (omega arith), le-ltb a 0xF0 l) (refl, refl)
+  pub wants-three : 0xF0 ≤ a → wants a ≡ 3
+  unfolding wants
+  wants-three l = rw (le-ltb a 0x80 (omega arith), le-ltb a 0xE0 (omega arith), le-ltb a 0xF0 l)
+
+  pub one-unit : a < 0xF0 → 1 ≡ unitsOf a
+  unfolding unitsOf
+  one-unit h = rw (lt-ltb a 0xF0 h)
+
+  pub two-units : 0xF0 ≤ a → 2 ≡ unitsOf a
+  unfolding unitsOf
+  two-units h = rw (le-ltb a 0xF0 h)
 
   -- a sequence has no more units than bytes
-  pub units-few : length (units a b c d) ≤ suc (wants a)
-  units-few =
-      under a 0x80 (λ h. rw (one-is h .0, one-is h .1) (omega arith)) (λ l.
-      under a 0xE0 (λ h. rw (two-is l h .0, two-is l h .1) (omega arith)) (λ m.
-      under a 0xF0 (λ h. rw (three-is m h .0, three-is m h .1) (omega arith)) (λ n. rw (four-is n .0, four-is n .1) (omega arith))))
+  pub units-few : unitsOf a ≤ suc (wants a)
+  units-few = under a 0xF0 (λ h. omega (arith, one-unit h)) (λ h. omega (arith, two-units h, wants-three h))
 
-  -- it has two exactly if it has four bytes
-  pub units-one : a < 0xF0 → 1 ≡ length (units a b c d)
-  units-one h =
-      under a 0x80 (λ l. rw (one-is l .1)) (λ k.
-      under a 0xE0 (λ l. rw (two-is k l .1)) (λ m. rw (three-is m h .1)))
+module _ (a b c d : ℕ) where
+  pub one-is : a < 0x80 → (wants a ≡ 0) × (units a b c d ≡ a ∷ [])
+  unfolding units
+  one-is h = (wants-none a h, rw (lt-ltb a 0x80 h))
 
-  pub units-two : 0xF0 ≤ a → 2 ≡ length (units a b c d)
-  units-two h = rw (four-is h .1)
+  pub two-is : 0x80 ≤ a → a < 0xE0 → (wants a ≡ 1) × (units a b c d ≡ two a b ∷ [])
+  unfolding units
+  two-is l h = (wants-one a l h, rw (le-ltb a 0x80 l, lt-ltb a 0xE0 h))
 
--- how many they are hangs on the first byte alone
-pub units-long : (a b c d : ℕ) → length (units a b c d) ≡ length (units a 0 0 0)
-units-long a b c d = under a 0xF0 (λ h. sym (units-one a b c d h) ∙ units-one a 0 0 0 h) (λ h. sym (units-two a b c d h) ∙ units-two a 0 0 0 h)
+  pub three-is : 0xE0 ≤ a → a < 0xF0 → (wants a ≡ 2) × (units a b c d ≡ three a b c ∷ [])
+  unfolding units
+  three-is l h = (wants-two a l h, rw (le-ltb a 0x80 (omega arith), le-ltb a 0xE0 l, lt-ltb a 0xF0 h))
+
+  pub four-is : 0xF0 ≤ a → (wants a ≡ 3) × (units a b c d ≡ firstHalf a b c ∷ secondHalf c d ∷ [])
+  unfolding units
+  four-is l = (wants-three a l, rw (le-ltb a 0x80 (omega arith), le-ltb a 0xE0 (omega arith), le-ltb a 0xF0 l))
+
+  -- how many units a sequence has hangs on its first byte alone
+  pub units-long : length (units a b c d) ≡ unitsOf a
+  units-long =
+      under a 0xF0
+      (λ h. under a 0x80 (λ l. rw (one-is l .1) (one-unit a h)) (λ k.
+      under a 0xE0 (λ l. rw (two-is k l .1) (one-unit a h)) (λ m. rw (three-is m h .1) (one-unit a h))))
+      (λ h. rw (four-is h .1) (two-units a h))
 
 -- nor has a text
 pub spelled-few : (xs : List ℕ) → length (spelled xs) ≤ length xs
@@ -83,7 +99,7 @@ spelled-few = by-ends (λ (xs : List ℕ). length (spelled xs) ≤ length xs)
     (λ h. rw (spelled-short x xs h) (omega arith))
     (λ h.
     rw (spelled-cons x xs h, length-append)
-    (omega (arith, units-few x (getD xs 0 0) (getD xs 1 0) (getD xs 2 0), ih (wants x), length-drop (wants x) xs))))
+    (omega (arith, units-long x (getD xs 0 0) (getD xs 1 0) (getD xs 2 0), units-few x, ih (wants x), length-drop (wants x) xs))))
 
 -- ---- the walk over a text, sequence by sequence
 
@@ -147,10 +163,10 @@ module _ (text : List ℕ) where
         let k = four-is (getD text at 0) (byte 1) (byte 2) (byte 3) l in
         rw (k .0, k .1) at (passed-next (rw (k .0) f))
 
-  -- bytes below 80 are their own units
-  pub plain-spells : (n : ℕ) → n ≤ length text → Plain text n → spelled text ≡ take n text ++ left n
-  plain-spells zero h p = refl
-  plain-spells (suc n) h p =
+  -- bytes below 0x80 are their own units
+  pub ascii-spells : (n : ℕ) → n ≤ length text → Ascii text n → spelled text ≡ take n text ++ left n
+  ascii-spells zero h p = refl
+  ascii-spells (suc n) h p =
       let q = passed-one n (omega arith) (p n (omega arith)) in
-      plain-spells n (omega arith) (λ k l. p k (omega arith))
+      ascii-spells n (omega arith) (λ k l. p k (omega arith))
       ∙ rw (q .same, add-one n, take-suc text n 0 (omega arith)) (sym (append-assoc (take n text) (getD text n 0 ∷ []) (left (suc n))))

@@ -1,5 +1,4 @@
 -- THE LAW OF SPELLING: where all segments of a byte text are whole, it spells its own units.
--- Assumes nothing.
 use mathlib.Core.Path.{_≡_, sym, ap, _∙_}
 use Prim.Native.Nat.{ℕ, _+_, _-_, _/_, _%_, _≤_}
 use mathlib.Core.List.{List, [], _∷_, _++_}
@@ -17,7 +16,7 @@ use Rattle.utf8.specs.Scalar.{number, utf8}
 use Rattle.utf8.proofs.RowsOfBytes.{rows-sound}
 use Rattle.utf16.specs.Scalar.{pair, utf16}
 use Rattle.utf16.proofs.FaithfulForm.{is-one, is-two}
-use Rattle.convert_from_utf8.specs.Spell.{three, firstHalf, secondHalf, spelled}
+use Rattle.convert_from_utf8.specs.Inside.Spell.{three, firstHalf, secondHalf, spelled}
 use Rattle.convert_from_utf8.proofs.SpelledByKind.{spelled-nil, spelled-cons, one-is, two-is, three-is, four-is}
 
 -- ---- a well-formed sequence spells its units, and the text behind it goes on

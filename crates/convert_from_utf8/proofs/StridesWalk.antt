@@ -1,5 +1,4 @@
 -- The strides of the writer: what a walk has written is a stride, and strides make the walk of the whole text.
--- Assumes nothing.
 use mathlib.Core.Path.{_≡_, sym, ap, _∙_}
 use Prim.Native.Nat.{ℕ, suc, _+_, _-_, _≤_, _<_}
 use native.Mathlib.Nat.{add-zero}
@@ -11,9 +10,9 @@ use native.Mathlib.Omega.{arith}
 use Rattle.theory.proofs.Cases.{under}
 use Rattle.terms.proofs.WalkBySegments.{part-is}
 use Rattle.terms.proofs.WalkWrites.{Passed, Filled, lent, filled-room, filled-sets}
-use Rattle.convert_from_utf8.specs.Spell.{wants, spelled}
-use Rattle.convert_from_utf8.specs.Stride.{Strides, Plain}
-use Rattle.convert_from_utf8.proofs.SpelledByKind.{left, left-end, left-short, plain-spells}
+use Rattle.convert_from_utf8.specs.Inside.Spell.{wants, spelled}
+use Rattle.convert_from_utf8.specs.Inside.Stride.{Strides, Ascii}
+use Rattle.convert_from_utf8.proofs.SpelledByKind.{left, left-end, left-short, ascii-spells}
 
 module _ (text out₀ : List ℕ) where
   -- what the walk has written up to a place
@@ -70,27 +69,27 @@ module _ (text : List ℕ) (at : ℕ) (h : at ≤ length text) (out out′ : Lis
   pub stride-ended : n ≡ 0 → left text (at + n) ≡ []
   stride-ended e = rw (e, add-zero) (rw (part-is text at) at (s .ended e))
 
--- there is room for a plain beginning
-pub plain-room : (text : List ℕ) (n : ℕ) → n ≤ length text → Plain text n → length (take n text) ≤ length (spelled text)
-plain-room text n h p = omega (arith, ap length (plain-spells text n h p), length-append (take n text) (left text n))
+-- there is room for a ascii beginning
+pub ascii-room : (text : List ℕ) (n : ℕ) → n ≤ length text → Ascii text n → length (take n text) ≤ length (spelled text)
+ascii-room text n h p = omega (arith, ap length (ascii-spells text n h p), length-append (take n text) (left text n))
 
--- a plain beginning is a stride
-pub plain-strides : (text out out′ : List ℕ) (n : ℕ) → n ≤ length text → (n ≡ 0 → ⊥) → Plain text n → out′ ≡ take n text ++ drop n out
+-- a ascii beginning is a stride
+pub ascii-strides : (text out out′ : List ℕ) (n : ℕ) → n ≤ length text → (n ≡ 0 → ⊥) → Ascii text n → out′ ≡ take n text ++ drop n out
     → Strides text out out′ n n
-plain-strides text out out′ n h z p e =
+ascii-strides text out out′ n h z p e =
     let l : length (take n text) ≡ n = length-take-le n text h in
     record {
       inside = h;
       vs = take n text;
-      same = plain-spells text n h p;
+      same = ascii-spells text n h p;
       puts = record { count = sym l; output = rw l e };
       ended = λ q. absurd (z q);
     }
 
--- a plain beginning goes on
-pub plain-more : (text : List ℕ) (at n : ℕ) → Plain text at → Plain (take (length text - at) (drop at text)) n → Plain text (at + n)
-plain-more text at n p q k h = under k at (p k) (λ l.
+-- a ascii beginning goes on
+pub ascii-more : (text : List ℕ) (at n : ℕ) → Ascii text at → Ascii (take (length text - at) (drop at text)) n → Ascii text (at + n)
+ascii-more text at n p q k h = under k at (p k) (λ l.
     let i : at + (k - at) ≡ k = omega arith in
-    let r : Plain (drop at text) n = rw (part-is text at) at q in
+    let r : Ascii (drop at text) n = rw (part-is text at) at q in
     let s : getD text (at + (k - at)) 0 < 0x80 = rw (getD-drop at text (k - at) 0) at (r (k - at) (omega arith)) in
     rw i at s)

@@ -1,2 +1,2 @@
-pub mod Spell
-pub mod Stride
+-- What private steps promise each other
+pub mod Inside

@@ -7,8 +7,9 @@ ghost use mathlib.Core.List.{_++_};
 ghost use Prim.Native.Nat.{_≤_, _<_, min};
 ghost use lib.ListN.{length, drop, getD};
 ghost use Rattle.terms.specs.Writing.{Writes, roomed};
-ghost use Rattle.convert_from_utf8.specs.Spell.{wants, two, three, firstHalf, secondHalf, units, spelled};
-ghost use Rattle.convert_from_utf8.specs.Stride.{Puts, Strides, Short, Plain};
+ghost use Rattle.convert_from_utf8.specs.Inside.Spell.{wants, unitsOf, two, three, firstHalf, secondHalf, spelled};
+ghost use Rattle.convert_from_utf8.specs.Inside.Stride.{Strides, Short, Ascii};
+ghost use Rattle.convert_point.specs.Puts.{Puts};
 
 // How far a stride went: so many bytes are passed over, and so many units written.
 pub(crate) struct Reach {
@@ -22,42 +23,49 @@ pub(crate) struct Sequence {
     pub size: usize,
 }
 
+// A byte as a unit of the same number.
 fn wide(b: u8) -> u16
     ensures { λ r. ⌜ r ≡ b ⌝ }
 {
     b as u16
 }
 
+// The unit of a sequence of two bytes.
 fn of_two(a: u8, b: u8) -> u16
     ensures { λ r. ⌜ r ≡ two a b ⌝ }
 {
     wide(a) % 0x20 * 0x40 + wide(b) % 0x40
 }
 
+// The unit of a sequence of three bytes.
 fn of_three(a: u8, b: u8, c: u8) -> u16
     ensures { λ r. ⌜ r ≡ three a b c ⌝ }
 {
     wide(a) % 0x10 * 0x1000 + wide(b) % 0x40 * 0x40 + wide(c) % 0x40
 }
 
+// The first half of the pair of a sequence that begins with these three of its four bytes.
 fn first_half(a: u8, b: u8, c: u8) -> u16
     ensures { λ r. ⌜ r ≡ firstHalf a b c ⌝ }
 {
     0xD7C0 + wide(a) % 0x08 * 0x100 + wide(b) % 0x40 * 0x04 + wide(c) % 0x40 / 0x10
 }
 
+// The second half of the pair of a sequence that ends with these two of its four bytes.
 fn second_half(c: u8, d: u8) -> u16
     ensures { λ r. ⌜ r ≡ secondHalf c d ⌝ }
 {
     0xDC00 + wide(c) % 0x10 * 0x40 + wide(d) % 0x40
 }
 
+// The lower of two numbers.
 fn lower(a: usize, b: usize) -> usize
     ensures { λ r. ⌜ r ≡ min a b ⌝ }
 {
     if a < b { a } else { b }
 }
 
+// At least both of them.
 fn larger(a: u8, b: u8) -> u8
     ensures { λ r. ⌜ (a ≤ r) × (b ≤ r) ⌝ }
 {
@@ -89,7 +97,7 @@ fn ones(text: &[u8], out: &mut [u16]) -> Reach
     }
 }
 
-// The sequence of one or two bytes that begins with a; where two bytes below 80 follow one another, `ones` is quicker.
+// The sequence of one or two bytes that begins with a; where two bytes below 0x80 follow one another, `ones` is quicker.
 fn short_sequence(a: u8, b: u8) -> Sequence
     ensures { λ r. ⌜ Short a b (r .unit) (r .size) ⌝ }
 {
@@ -111,7 +119,7 @@ fn short_sequence(a: u8, b: u8) -> Sequence
     }
 }
 
-// Sequences of two bytes, and single bytes below 80 between them.
+// Sequences of two bytes, and single bytes below 0x80 between them.
 fn twos(text: &[u8], out: &mut [u16]) -> Reach
     requires { ⌜ (0 < length (now text)) × (0x80 ≤ getD (now text) 0 0) × (getD (now text) 0 0 < 0xE0) ⌝ }
     requires { ⌜ length (spelled (now text)) ≤ length (now out) ⌝ }
@@ -177,10 +185,10 @@ fn fours(text: &[u8], out: &mut [u16]) -> Reach
     Reach { passed: at, put }
 }
 
-// Are the first 64 bytes below 80?
-fn is_plain(text: &[u8]) -> bool
+// Are the first 64 bytes below 0x80?
+fn is_ascii(text: &[u8]) -> bool
     requires { ⌜ 64 ≤ length (now text) ⌝ }
-    ensures { λ r. ⌜ (r ≡ true → Plain (now (text .entry)) 64) ⌝ }
+    ensures { λ r. ⌜ (r ≡ true → Ascii (now (text .entry)) 64) ⌝ }
 {
     let mut top: u8 = 0;
     for k in 0..64 {
@@ -189,13 +197,13 @@ fn is_plain(text: &[u8]) -> bool
     top < 0x80
 }
 
-// So many bytes at the start are below 80, by whole blocks.
-fn plain_run(text: &[u8]) -> usize
-    ensures { λ r. ⌜ (r ≤ length (now (text .entry))) × Plain (now (text .entry)) r ⌝ }
+// So many bytes at the start are below 0x80, by whole blocks.
+fn ascii_run(text: &[u8]) -> usize
+    ensures { λ r. ⌜ (r ≤ length (now (text .entry))) × Ascii (now (text .entry)) r ⌝ }
 {
     let mut at: usize = 0;
     while 64 <= text.len() - at {
-        if !is_plain(&text[at..]) {
+        if !is_ascii(&text[at..]) {
             return at;
         }
         at += 64;
@@ -234,16 +242,16 @@ fn alike(text: &[u8], out: &mut [u16]) -> Reach
     fours(text, out)
 }
 
-// The same, or a long run of bytes below 80 where one is expected.
-fn stride(text: &[u8], plain: bool, out: &mut [u16]) -> Reach
+// Sequences of one length, or a long run of bytes below 0x80 where one is expected.
+fn stride(text: &[u8], ascii: bool, out: &mut [u16]) -> Reach
     requires { ⌜ 0 < length (now text) ⌝ }
     requires { ⌜ length (spelled (now text)) ≤ length (now out) ⌝ }
     ensures { λ r. ⌜ Strides (now (text .entry)) (now (out .entry)) (now (out .exit)) (r .passed) (r .put) ⌝ }
 {
-    if !plain {
+    if !ascii {
         return alike(text, out);
     }
-    let n = plain_run(text);
+    let n = ascii_run(text);
     if n == 0 {
         return alike(text, out);
     }
@@ -251,25 +259,27 @@ fn stride(text: &[u8], plain: bool, out: &mut [u16]) -> Reach
     Reach { passed: n, put: n }
 }
 
-fn put(text: &[u8], out: &mut [u16]) -> usize
+// What a text spells, at the start of an output that has room for it.
+pub(crate) fn put(text: &[u8], out: &mut [u16]) -> usize
     requires { ⌜ length (spelled (now text)) ≤ length (now out) ⌝ }
     ensures { λ r. ⌜ Puts (spelled (now (text .entry))) (now (out .entry)) (now (out .exit)) r ⌝ }
 {
     let mut at: usize = 0;
     let mut done: usize = 0;
-    let mut plain = true;
+    let mut ascii = true;
     while at < text.len() {
-        let s = stride(&text[at..], plain, &mut out[done..]);
+        let s = stride(&text[at..], ascii, &mut out[done..]);
         done += s.put;
         at += s.passed;
         if s.passed == 0 {
             return done;
         }
-        plain = s.passed == 32;
+        ascii = s.passed == 32;
     }
     done
 }
 
+// How many bytes a first byte wants behind it.
 fn wanted(a: u8) -> usize
     ensures { λ r. ⌜ r ≡ wants a ⌝ }
 {
@@ -285,8 +295,9 @@ fn wanted(a: u8) -> usize
     3
 }
 
+// How many units the sequence of a first byte has.
 fn units_of(a: u8) -> usize
-    ensures { λ r. ⌜ r ≡ length (units a 0 0 0) ⌝ }
+    ensures { λ r. ⌜ r ≡ unitsOf a ⌝ }
 {
     if a < 0xF0 {
         return 1;
@@ -312,7 +323,7 @@ fn need(text: &[u8]) -> usize
     total
 }
 
-// What a text spells, where the output has a place for each unit.
+// What a text spells, at the start of an output; refused where that has no room for it.
 pub(crate) fn write(text: &[u8], out: &mut [u16]) -> Written
     ensures { λ r. ⌜ Writes
         (roomed (length (now (out .entry))) (spelled (now (text .entry))))

@@ -1,5 +1,4 @@
 -- The room that is enough: no segment takes more places in a form than its elements are counted for, and so no text does.
--- Assumes nothing.
 use mathlib.Core.Path.{_≡_, refl, ap}
 use Prim.Native.Nat.{ℕ, zero, suc, _+_, _*_, _≤_, _<_}
 use native.Mathlib.Nat.{mul-add, mul-suc, mul-le-mul}
@@ -29,11 +28,11 @@ use Rattle.utf16.proofs.RowsOfUnits.{rows-sound}
 use Rattle.utf16.proofs.FaithfulForm.{utf16-faithful}
 use Rattle.utf16.proofs.FaithfulForm as utf16
 use Rattle.code_points.specs.Points.{points}
-use Rattle.code_points.proofs.CodePointsDivide.{codes-faithful}
+use Rattle.code_points.proofs.CodePointsDivide.{points-faithful}
 use Rattle.convert_point.specs.Target.{formOf}
 use Rattle.convert_point.specs.Room.{placesEach, mostOf}
 use Rattle.convert_point.specs.declared.Target.{Target}
-use Rattle.convert_point.specs.declared.Target.the-variants.{Bytes, Units, Codes}
+use Rattle.convert_point.specs.declared.Target.the-variants.{Bytes, Units, Points}
 use Rattle.convert_point.proofs.FourAtMost.{at-most-four}
 
 -- ---- of any two forms: what is enough for each segment is enough for the text
@@ -55,7 +54,7 @@ module _ (F G : Form) (each : ℕ)
 pub faithful : (t : Target) → Faithful (formOf t)
 faithful Bytes = utf8-faithful
 faithful Units = utf16-faithful
-faithful Codes = codes-faithful
+faithful Points = points-faithful
 
 at-most-two : (c : ℕ) → length (pair c) ≤ 2
 at-most-two c = split (ltb c 0x10000) (λ e. rw e (omega arith)) (λ e. rw e (omega arith))
@@ -84,13 +83,13 @@ bytes-of = by-rows rows (λ xs. length (sequence (number xs)) ≤ 3 * length xs)
 damage-few : (from to : Target) (n : ℕ) → length (formOf to .write replacement) ≤ placesEach from to * suc n
 damage-few Bytes Bytes n = omega arith
 damage-few Bytes Units n = omega arith
-damage-few Bytes Codes n = omega arith
+damage-few Bytes Points n = omega arith
 damage-few Units Bytes n = omega arith
 damage-few Units Units n = omega arith
-damage-few Units Codes n = omega arith
-damage-few Codes Bytes n = omega arith
-damage-few Codes Units n = omega arith
-damage-few Codes Codes n = omega arith
+damage-few Units Points n = omega arith
+damage-few Points Bytes n = omega arith
+damage-few Points Units n = omega arith
+damage-few Points Points n = omega arith
 
 module _ (x : ℕ) (xs : List ℕ) where
   -- a whole segment in its own form is itself
@@ -103,13 +102,13 @@ module _ (x : ℕ) (xs : List ℕ) where
   unfolding units
   whole-few Bytes Bytes e = omega (arith, same-few Bytes e)
   whole-few Bytes Units e = omega (arith, units-of x (take (formOf Bytes .look x xs .more) xs))
-  whole-few Bytes Codes e = omega arith
+  whole-few Bytes Points e = omega arith
   whole-few Units Bytes e = bytes-of (body (first units x xs)) (whole-sequence rows rows-sound x xs e)
   whole-few Units Units e = omega (arith, same-few Units e)
-  whole-few Units Codes e = omega arith
-  whole-few Codes Bytes e = omega (arith, at-most-four Bytes (formOf Codes .value (body (first (formOf Codes .look) x xs))))
-  whole-few Codes Units e = omega (arith, at-most-two (formOf Codes .value (body (first (formOf Codes .look) x xs))))
-  whole-few Codes Codes e = omega arith
+  whole-few Units Points e = omega arith
+  whole-few Points Bytes e = omega (arith, at-most-four Bytes (formOf Points .value (body (first (formOf Points .look) x xs))))
+  whole-few Points Units e = omega (arith, at-most-two (formOf Points .value (body (first (formOf Points .look) x xs))))
+  whole-few Points Points e = omega arith
 
   segment-few : (from to : Target)
       → length (formOf to .write (pointOf (formOf from) (first (formOf from .look) x xs))) ≤ placesEach from to * size (first (formOf from .look) x xs)
@@ -136,20 +135,20 @@ enough-repaired t text h = rw (repaired-converted (faithful t) text) (enough t t
 abbrev pub widest : Target → ℕ
 widest Bytes = 0x80
 widest Units = replacement
-widest Codes = 0x10000
+widest Points = 0x10000
 
 alone : (from to : Target) (xs : List ℕ)
     → length (converted (formOf from) (formOf to) (widest from ∷ xs)) ≡ placesEach from to + length (converted (formOf from) (formOf to) xs)
 unfolding bytes-rows.rows bytes-rows.bytes rows units points
 alone Bytes Bytes xs = rw cut-cons (omega arith)
 alone Bytes Units xs = rw cut-cons (omega arith)
-alone Bytes Codes xs = rw cut-cons (omega arith)
+alone Bytes Points xs = rw cut-cons (omega arith)
 alone Units Bytes xs = rw cut-cons (omega arith)
 alone Units Units xs = rw cut-cons (omega arith)
-alone Units Codes xs = rw cut-cons (omega arith)
-alone Codes Bytes xs = rw cut-cons (omega arith)
-alone Codes Units xs = rw cut-cons (omega arith)
-alone Codes Codes xs = rw cut-cons (omega arith)
+alone Units Points xs = rw cut-cons (omega arith)
+alone Points Bytes xs = rw cut-cons (omega arith)
+alone Points Units xs = rw cut-cons (omega arith)
+alone Points Points xs = rw cut-cons (omega arith)
 
 all-alone : (from to : Target) (n : ℕ) → length (converted (formOf from) (formOf to) (replicate n (widest from))) ≡ placesEach from to * n
 all-alone from to zero = rw cut-nil (omega arith)
@@ -162,21 +161,21 @@ needed from to n h = rw (le-ltb limit n h) (all-alone from to n)
 -- ---- what the call counts
 
 -- one place for each element as a code point
-pub codes-one : (from : Target) → placesEach from Codes ≡ 1
-codes-one Bytes = refl
-codes-one Units = refl
-codes-one Codes = refl
+pub points-one : (from : Target) → placesEach from Points ≡ 1
+points-one Bytes = refl
+points-one Units = refl
+points-one Points = refl
 
 each-few : (from to : Target) → placesEach from to ≤ 4
 each-few Bytes Bytes = omega arith
 each-few Bytes Units = omega arith
-each-few Bytes Codes = omega arith
+each-few Bytes Points = omega arith
 each-few Units Bytes = omega arith
 each-few Units Units = omega arith
-each-few Units Codes = omega arith
-each-few Codes Bytes = omega arith
-each-few Codes Units = omega arith
-each-few Codes Codes = omega arith
+each-few Units Points = omega arith
+each-few Points Bytes = omega arith
+each-few Points Units = omega arith
+each-few Points Points = omega arith
 
 pub most-small : (from to : Target) (n : ℕ) → n ≤ limit → placesEach from to * n ≤ 4 * limit
 most-small from to n h = mul-le-mul (each-few from to) h

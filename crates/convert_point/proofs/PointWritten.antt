@@ -1,5 +1,4 @@
 -- One code point at the start of an output: its elements are stored one by one where there is room, and a walk that has room puts them all.
--- Assumes nothing.
 use mathlib.Core.Path.{_≡_, refl, sym, ap, _∙_}
 use Prim.Native.Nat.{ℕ, zero, _+_, _≤_, _<_}
 use mathlib.Core.Bool.{Bool, true, false, _||_}

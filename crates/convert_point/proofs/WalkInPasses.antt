@@ -1,5 +1,4 @@
 -- A walk over a text in passes, of which each reads some of the text and counts or writes what that takes, over any forms.
--- Assumes nothing.
 use mathlib.Core.Path.{_≡_, refl, sym, ap, _∙_}
 use Prim.Native.Nat.{ℕ, _+_, _-_, _≤_, _<_}
 use native.Mathlib.Nat.{zero-add}
@@ -12,7 +11,7 @@ use Rattle.terms.proofs.FaithfulForms.{Faithful}
 use Rattle.terms.proofs.WalkBySegments.{part-is}
 use Rattle.terms.proofs.WalkWrites.{Met, met, left-end, lent, back, back-is, Wrote}
 use Rattle.convert_point.specs.Puts.{fitting, Puts}
-use Rattle.convert_point.specs.Passes.{Passes, PassesTo}
+use Rattle.convert_point.specs.Inside.Passes.{Passes, PassesTo}
 use Rattle.convert_point.proofs.PointWritten.{put-whole}
 
 -- what `&text[at..]` hands over, as the text from there on

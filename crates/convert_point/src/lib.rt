@@ -5,7 +5,7 @@ ghost use mathlib.Core.Path.{_≡_};
 ghost use lib.ListN.{length};
 ghost use Rattle.utf8.specs.Scalar.{sequence, utf8};
 ghost use Rattle.utf16.specs.Scalar.{pair, utf16};
-ghost use Rattle.code_points.specs.Points.{codes};
+ghost use Rattle.code_points.specs.Points.{codePoints};
 ghost use Rattle.convert_point.specs.Target.{formOf};
 ghost use Rattle.convert_point.specs.Puts.{fitting, Puts};
 ghost use Rattle.convert_point.specs.Room.{placesEach, mostOf};
@@ -14,9 +14,10 @@ ghost use Rattle.convert_point.specs.Room.{placesEach, mostOf};
 pub enum Target {
     Bytes,
     Units,
-    Codes,
+    Points,
 }
 
+// How many bytes a code point takes.
 pub fn bytes_of(c: u32) -> usize
     ensures { λ r. ⌜ r ≡ length (sequence c) ⌝ }
 {
@@ -32,6 +33,7 @@ pub fn bytes_of(c: u32) -> usize
     4
 }
 
+// How many units a code point takes.
 fn units_of(c: u32) -> usize
     ensures { λ r. ⌜ r ≡ length (pair c) ⌝ }
 {
@@ -41,18 +43,18 @@ fn units_of(c: u32) -> usize
     2
 }
 
-// How many places a code point takes.
+// How many places a code point takes in a form.
 pub fn places(target: Target, c: u32) -> usize
     ensures { λ r. ⌜ r ≡ length (formOf target .write c) ⌝ }
 {
     match target {
         Target::Bytes => bytes_of(c),
         Target::Units => units_of(c),
-        Target::Codes => 1,
+        Target::Points => 1,
     }
 }
 
-// The most places that one element takes.
+// The most places that one element of a form takes in another.
 fn places_each(from: Target, to: Target) -> usize
     ensures { λ r. ⌜ r ≡ placesEach from to ⌝ }
 {
@@ -60,14 +62,14 @@ fn places_each(from: Target, to: Target) -> usize
         Target::Bytes => match from {
             Target::Bytes => 3,
             Target::Units => 3,
-            Target::Codes => 4,
+            Target::Points => 4,
         },
         Target::Units => match from {
             Target::Bytes => 1,
             Target::Units => 1,
-            Target::Codes => 2,
+            Target::Points => 2,
         },
-        Target::Codes => 1,
+        Target::Points => 1,
     }
 }
 
@@ -82,6 +84,7 @@ pub fn most(from: Target, to: Target, n: usize) -> usize
     each * n
 }
 
+// The bytes of a code point at the start of an output, and their number; none without room for them, or above 0x10FFFF.
 pub fn put_bytes(out: &mut [u8], c: u32) -> usize
     ensures { λ r. ⌜ Puts (fitting utf8 (length (now (out .entry))) c) (now (out .entry)) (now (out .exit)) r ⌝ }
 {
@@ -122,6 +125,7 @@ pub fn put_bytes(out: &mut [u8], c: u32) -> usize
     4
 }
 
+// The units of a code point at the start of an output, and their number; none without room for them, or above 0x10FFFF.
 pub fn put_units(out: &mut [u16], c: u32) -> usize
     ensures { λ r. ⌜ Puts (fitting utf16 (length (now (out .entry))) c) (now (out .entry)) (now (out .exit)) r ⌝ }
 {
@@ -143,8 +147,9 @@ pub fn put_units(out: &mut [u16], c: u32) -> usize
     2
 }
 
-pub fn put_code(out: &mut [u32], c: u32) -> usize
-    ensures { λ r. ⌜ Puts (fitting codes (length (now (out .entry))) c) (now (out .entry)) (now (out .exit)) r ⌝ }
+// A code point at the start of an output, and 1; none without room for it, or above 0x10FFFF.
+pub fn put_point(out: &mut [u32], c: u32) -> usize
+    ensures { λ r. ⌜ Puts (fitting codePoints (length (now (out .entry))) c) (now (out .entry)) (now (out .exit)) r ⌝ }
 {
     if 0x10FFFF < c {
         return 0;

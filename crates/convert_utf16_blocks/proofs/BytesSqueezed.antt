@@ -1,5 +1,4 @@
--- The bytes of plain units, stored one unit behind another: of each unit's three places those that it takes, or those alone.
--- Assumes nothing.
+-- The bytes of units that stand alone, stored one unit behind another: of each unit's three places those that it takes, or those alone.
 use mathlib.Core.Path.{_≡_, refl, sym, ap, _∙_}
 use Prim.Native.Nat.{ℕ, zero, suc, _+_, _-_, _*_, _≤_, _<_}
 use native.Mathlib.Numerals.{add-one}
@@ -15,7 +14,7 @@ use Rattle.terms.proofs.WalkBySegments.{part-is}
 use Rattle.terms.proofs.WalkWrites.{lent, back, back-is}
 use Rattle.utf8.specs.Scalar.{sequence, later}
 use Rattle.convert_utf16_blocks.specs.Block.{bytesOf}
-use Rattle.convert_utf16_blocks.specs.Places.{sizeOf, firstByte, secondByte, Squeezed}
+use Rattle.convert_utf16_blocks.specs.Inside.Places.{sizeOf, firstByte, secondByte, Squeezed}
 
 -- ---- a unit
 

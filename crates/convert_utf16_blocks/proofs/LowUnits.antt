@@ -1,5 +1,4 @@
--- The units that a text begins with, and units below 80, which are plain and their own bytes.
--- Assumes nothing.
+-- The units that a text begins with, and units below 0x80, which are alone and their own bytes.
 use mathlib.Core.Path.{_≡_, refl, sym, ap, _∙_}
 use Prim.Native.Nat.{ℕ, zero, suc, _+_, _≤_, _<_}
 use native.Mathlib.Nat.{add-zero}
@@ -14,19 +13,19 @@ use borrow.Author.Tests.{lt-ltb, le-ltb, ltb-true, ltb-false}
 use native.Mathlib.Omega.{arith}
 use Rattle.theory.proofs.Cases.{split, under, both}
 use Rattle.utf8.proofs.FaithfulForm.{is-one}
-use Rattle.utf16.specs.Plain.{plain}
-use Rattle.convert_utf16_blocks.specs.Block.{opening, within, block, roomy, low, few, bytesOf, Counts, Puts}
-use Rattle.convert_utf16_blocks.specs.Places.{Under, Squeezed}
+use Rattle.utf16.specs.Alone.{allAlone}
+use Rattle.convert_utf16_blocks.specs.Block.{opening, within, block, roomy, low, sixteen, bytesOf, Counts, Puts}
+use Rattle.convert_utf16_blocks.specs.Inside.Places.{Under, Squeezed}
 use Rattle.convert_utf16_blocks.specs.declared.Part.{Part}
 
--- ---- units below 80
+-- ---- units below 0x80
 
 under-rest : {x : ℕ} {xs : List ℕ} {most : ℕ} → Under (x ∷ xs) most → Under xs most
 under-rest u = record { each = λ k l. u .each (suc k) (omega arith) }
 
-pub low-plain : (xs : List ℕ) → Under xs 0x7F → plain xs ≡ true
-low-plain [] u = refl
-low-plain (x ∷ xs) u = let a : x < 0xD800 = omega (arith, u .each zero (omega arith)) in rw (lt-ltb x 0xD800 a) (low-plain xs (under-rest u))
+pub low-alone : (xs : List ℕ) → Under xs 0x7F → allAlone xs ≡ true
+low-alone [] u = refl
+low-alone (x ∷ xs) u = let a : x < 0xD800 = omega (arith, u .each zero (omega arith)) in rw (lt-ltb x 0xD800 a) (low-alone xs (under-rest u))
 
 pub low-bytes : (xs : List ℕ) → Under xs 0x7F → bytesOf xs ≡ xs
 low-bytes [] u = refl
@@ -47,7 +46,7 @@ low-suc [] k h = absurd (omega arith)
 low-suc (x ∷ xs) zero h = and-true (ltb x 0x80)
 low-suc (x ∷ xs) (suc k) h = rw (low-suc xs k (omega arith)) (sym (and-assoc (ltb x 0x80) (low (take k xs)) (ltb (getD xs k 0) 0x80)))
 
--- the bits of two numbers together are below 80 where both are
+-- the bits of two numbers together are below 0x80 where both are
 or-low : (a b : ℕ) → ltb (bitOr a b) 0x80 ≡ ltb a 0x80 && ltb b 0x80
 or-low a b = under a 0x80
     (λ h. rw (lt-ltb a 0x80 h) (under b 0x80
@@ -107,12 +106,12 @@ module _ (places room : ℕ) (units : List ℕ) where
   pub within-all : places ≤ room → within places room units ≡ units
   within-all h = rw (le-ltb room places h)
 
--- WHATEVER IT IS: it is plain, and the text begins with it
+-- WHATEVER IT IS: it is alone, and the text begins with it
 module _ (text : List ℕ) where
-  abbrev pub Plainly : List ℕ → Type 0
-  Plainly units = (plain units ≡ true) × (text ≡ units ++ drop (length units) text)
+  abbrev pub AloneFirst : List ℕ → Type 0
+  AloneFirst units = (allAlone units ≡ true) × (text ≡ units ++ drop (length units) text)
 
-  opening-is : (test : List ℕ → Bool) → ((xs : List ℕ) → test xs ≡ true → plain xs ≡ true) → (n : ℕ) → Plainly (opening test n text)
+  opening-is : (test : List ℕ → Bool) → ((xs : List ℕ) → test xs ≡ true → allAlone xs ≡ true) → (n : ℕ) → AloneFirst (opening test n text)
   opening-is test p n = split (ltb (length text) n)
       (λ e. rw e (refl, refl))
       (λ e. split (test (take n text))
@@ -121,14 +120,14 @@ module _ (text : List ℕ) where
       rw (e, f, l) (p (take n text) f, sym (take-append-drop n text)))
       (λ f. rw (e, f) (refl, refl)))
 
-  within-is : (places room : ℕ) (units : List ℕ) → Plainly units → Plainly (within places room units)
+  within-is : (places room : ℕ) (units : List ℕ) → AloneFirst units → AloneFirst (within places room units)
   within-is places room units p = split (ltb room places) (λ e. rw e (refl, refl)) (λ e. rw e p)
 
-  pub block-is : Plainly (block text)
-  block-is = opening-is plain (λ xs p. p) 128
+  pub block-is : AloneFirst (block text)
+  block-is = opening-is allAlone (λ xs p. p) 128
 
-  pub roomy-is : (room : ℕ) → Plainly (roomy room text)
+  pub roomy-is : (room : ℕ) → AloneFirst (roomy room text)
   roomy-is room = within-is 384 room (block text) block-is
 
-  pub few-is : (room : ℕ) → Plainly (few room text)
-  few-is room = within-is 16 room (opening low 16 text) (opening-is low (λ xs p. low-plain xs (low-under xs p)) 16)
+  pub sixteen-is : (room : ℕ) → AloneFirst (sixteen room text)
+  sixteen-is room = within-is 16 room (opening low 16 text) (opening-is low (λ xs p. low-alone xs (low-under xs p)) 16)

@@ -1,5 +1,4 @@
 -- Rows that are filled from units one by one, and the numbers that no unit is above.
--- Assumes nothing.
 use mathlib.Core.Path.{_≡_, sym, _∙_}
 use Prim.Native.Nat.{ℕ, _+_, _≤_, _<_}
 use mathlib.Core.List.{List}
@@ -8,7 +7,7 @@ use lib.Seq.{getD-set-same, getD-set-other}
 use lib.Bits.{bitOr, and-le-l, and-le-r, or-add-and}
 use borrow.Author.Count.{below-more}
 use native.Mathlib.Omega.{arith}
-use Rattle.convert_utf16_blocks.specs.Places.{Mapped}
+use Rattle.convert_utf16_blocks.specs.Inside.Places.{Mapped}
 
 module _ (f : ℕ → ℕ) (units row : List ℕ) where
   pub mapped-none : 128 ≡ length row → Mapped f units 0 row

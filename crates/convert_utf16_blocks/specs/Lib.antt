@@ -1,2 +1,4 @@
+-- Blocks of alone units, and the bytes of units that each stand by themselves
 pub mod Block
-pub mod Places
+-- What private steps promise each other
+pub mod Inside

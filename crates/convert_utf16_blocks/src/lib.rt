@@ -1,15 +1,15 @@
-// Plain units as UTF-8 bytes, a block of 128 at a time: how many bytes they take, and the bytes at the start of an output.
+// Units that stand alone as UTF-8 bytes, a block of 128 at a time: how many bytes they take, and the bytes at the start of an output.
 ghost use mathlib.Core.Path.{_≡_};
 ghost use mathlib.Core.List.{_++_};
 ghost use Prim.Native.Nat.{_%_, _≤_};
 ghost use lib.ListN.{length, drop};
 ghost use Rattle.utf8.specs.Scalar.{sequence, later};
 ghost use Rattle.convert_utf16_blocks.specs.Block.{block, roomy, bytesOf, Counts, Puts};
-ghost use Rattle.convert_utf16_blocks.specs.Places.{sizeOf, firstByte, secondByte, Under, Mapped, Squeezed};
+ghost use Rattle.convert_utf16_blocks.specs.Inside.Places.{sizeOf, firstByte, secondByte, Under, Mapped, Squeezed};
 
 mod sixteen;
 
-pub use sixteen::put_few;
+pub use sixteen::put_sixteen;
 
 // How many units were read, and how many places they take.
 pub struct Part {
@@ -17,24 +17,28 @@ pub struct Part {
     pub places: usize,
 }
 
+// A unit as a number of places.
 fn wide(x: u16) -> usize
     ensures { λ r. ⌜ r ≡ x ⌝ }
 {
     x as usize
 }
 
+// A byte as a number of places.
 fn wide_byte(x: u8) -> usize
     ensures { λ r. ⌜ r ≡ x ⌝ }
 {
     x as usize
 }
 
+// A byte as a unit.
 fn unit_of(x: u8) -> u16
     ensures { λ r. ⌜ r ≡ x ⌝ }
 {
     x as u16
 }
 
+// How many bytes a unit takes.
 fn size_of(x: u16) -> u8
     ensures { λ r. ⌜ r ≡ sizeOf x ⌝ }
 {
@@ -47,6 +51,7 @@ fn size_of(x: u16) -> u8
     3
 }
 
+// The first byte of a unit.
 fn first_byte(x: u16) -> u8
     ensures { λ r. ⌜ r ≡ firstByte x ⌝ }
 {
@@ -59,6 +64,7 @@ fn first_byte(x: u16) -> u8
     (0xE0 + x / 0x1000) as u8
 }
 
+// The second byte of a unit that takes two or three.
 fn second_byte(x: u16) -> u8
     ensures { λ r. ⌜ r ≡ secondByte x ⌝ }
 {
@@ -68,19 +74,21 @@ fn second_byte(x: u16) -> u8
     (0x80 + x / 0x40 % 0x40) as u8
 }
 
+// The third byte of a unit that takes three.
 fn third_byte(x: u16) -> u8
     ensures { λ r. ⌜ r ≡ later x ⌝ }
 {
     (0x80 + x % 0x40) as u8
 }
 
-// The low byte of a unit, which is the unit where it is below 100.
+// The low byte of a unit, which is the unit itself where it is below 0x100.
 fn low_byte(x: u16) -> u8
     ensures { λ r. ⌜ r ≡ x % 0x100 ⌝ }
 {
     (x % 0x100) as u8
 }
 
+// How many bytes each of 128 units takes.
 fn sizes(units: &[u16]) -> [u8; 128]
     requires { ⌜ 128 ≤ length (now units) ⌝ }
     ensures { λ r. ⌜ Mapped sizeOf (now (units .entry)) 128 r ⌝ }
@@ -92,6 +100,7 @@ fn sizes(units: &[u16]) -> [u8; 128]
     row
 }
 
+// The first byte of each of 128 units.
 fn firsts(units: &[u16]) -> [u8; 128]
     requires { ⌜ 128 ≤ length (now units) ⌝ }
     ensures { λ r. ⌜ Mapped firstByte (now (units .entry)) 128 r ⌝ }
@@ -103,6 +112,7 @@ fn firsts(units: &[u16]) -> [u8; 128]
     row
 }
 
+// The second byte of each of 128 units.
 fn seconds(units: &[u16]) -> [u8; 128]
     requires { ⌜ 128 ≤ length (now units) ⌝ }
     ensures { λ r. ⌜ Mapped secondByte (now (units .entry)) 128 r ⌝ }
@@ -114,6 +124,7 @@ fn seconds(units: &[u16]) -> [u8; 128]
     row
 }
 
+// The third byte of each of 128 units.
 fn thirds(units: &[u16]) -> [u8; 128]
     requires { ⌜ 128 ≤ length (now units) ⌝ }
     ensures { λ r. ⌜ Mapped later (now (units .entry)) 128 r ⌝ }
@@ -125,6 +136,7 @@ fn thirds(units: &[u16]) -> [u8; 128]
     row
 }
 
+// The low byte of each of 128 units.
 fn lows(units: &[u16]) -> [u8; 128]
     requires { ⌜ 128 ≤ length (now units) ⌝ }
     ensures { λ r. ⌜ Mapped (λ x. x % 0x100) (now (units .entry)) 128 r ⌝ }
@@ -136,7 +148,7 @@ fn lows(units: &[u16]) -> [u8; 128]
     row
 }
 
-// No unit is above this number.
+// A number that none of 128 units is above.
 fn top(units: &[u16]) -> u16
     requires { ⌜ 128 ≡ length (now units) ⌝ }
     ensures { λ r. ⌜ Under (now (units .entry)) r ⌝ }
@@ -148,6 +160,7 @@ fn top(units: &[u16]) -> u16
     bits
 }
 
+// How many bytes 128 units take.
 fn count(units: &[u16]) -> u16
     requires { ⌜ 128 ≡ length (now units) ⌝ }
     ensures { λ r. ⌜ r ≡ length (bytesOf (now (units .entry))) ⌝ }
@@ -159,7 +172,7 @@ fn count(units: &[u16]) -> u16
     places
 }
 
-// All but the last two units: each is stored as three bytes, and the next ones are stored over those that it does not take.
+// The bytes of all but the last two units: each is stored as three, and the next over those that it does not take.
 fn squeeze(units: &[u16], out: &mut [u8]) -> usize
     requires { ⌜ 128 ≡ length (now units) ⌝ }
     requires { ⌜ 384 ≤ length (now out) ⌝ }
@@ -179,6 +192,7 @@ fn squeeze(units: &[u16], out: &mut [u8]) -> usize
     at
 }
 
+// The bytes of a unit at the start of an output, and their number.
 fn put_unit(out: &mut [u8], x: u16) -> usize
     requires { ⌜ 3 ≤ length (now out) ⌝ }
     ensures { λ r. ⌜ (r ≡ length (sequence x)) × (now (out .exit) ≡ sequence x ++ drop (length (sequence x)) (now (out .entry))) ⌝ }
@@ -198,7 +212,7 @@ fn put_unit(out: &mut [u8], x: u16) -> usize
     3
 }
 
-// The last two units are stored exactly.
+// The bytes of 128 units, and their number: the last two units are stored exactly.
 fn put_mixed(units: &[u16], out: &mut [u8]) -> usize
     requires { ⌜ 128 ≡ length (now units) ⌝ }
     requires { ⌜ 384 ≤ length (now out) ⌝ }
@@ -210,7 +224,7 @@ fn put_mixed(units: &[u16], out: &mut [u8]) -> usize
     at
 }
 
-// Units below 80 are their own bytes.
+// The bytes of 128 units below 0x80, which are themselves.
 fn put_low(units: &[u16], out: &mut [u8])
     requires { ⌜ 128 ≡ length (now units) ⌝ }
     requires { ⌜ Under (now units) 0x7F ⌝ }
@@ -223,7 +237,7 @@ fn put_low(units: &[u16], out: &mut [u8])
     }
 }
 
-// How many bytes the first block of a text takes, if it is plain.
+// How many bytes the first block of a text takes, if its units stand alone; else no unit is read.
 pub fn count_block(text: &[u16]) -> Part
     ensures { λ r. ⌜ Counts (block (now (text .entry))) r ⌝ }
 {
@@ -237,7 +251,7 @@ pub fn count_block(text: &[u16]) -> Part
             places: 128,
         };
     }
-    if !utf16::is_plain(units) {
+    if !utf16::are_alone(units) {
         return Part { read: 0, places: 0 };
     }
     Part {
@@ -246,7 +260,7 @@ pub fn count_block(text: &[u16]) -> Part
     }
 }
 
-// The bytes of the first block of a text, if it is plain and the output is long enough for any block.
+// The bytes of the first block of a text, if its units stand alone and the output is long enough for any block; else no unit is read.
 pub fn put_block(text: &[u16], out: &mut [u8]) -> Part
     ensures { λ r. ⌜ Puts (roomy (length (now (out .entry))) (now (text .entry))) (now (out .entry)) (now (out .exit)) r ⌝ }
 {
@@ -264,7 +278,7 @@ pub fn put_block(text: &[u16], out: &mut [u8]) -> Part
             places: 128,
         };
     }
-    if !utf16::is_plain(units) {
+    if !utf16::are_alone(units) {
         return Part { read: 0, places: 0 };
     }
     Part {

@@ -1,5 +1,4 @@
 -- Bytes of a text that stand at the start of an output: one more of them, and a block of sixteen more.
--- Assumes nothing.
 use mathlib.Core.Path.{_≡_, refl, sym, ap, _∙_}
 use Prim.Native.Nat.{ℕ, _+_, _-_, _≤_, _<_, min}
 use native.Mathlib.Nat.{le-refl}

@@ -4,6 +4,7 @@ ghost use mathlib.Core.List.{_++_};
 ghost use Prim.Native.Nat.{_≤_, min};
 ghost use lib.ListN.{length, take, drop};
 
+// The lower of two numbers.
 fn lower(a: usize, b: usize) -> usize
     ensures { λ r. ⌜ r ≡ min a b ⌝ }
 {
@@ -22,6 +23,7 @@ fn block_of(text: &[u8]) -> [u8; 16]
     block
 }
 
+// A block of sixteen bytes.
 fn copy_block(text: &[u8], out: &mut [u8])
     requires { ⌜ (16 ≤ length (now text)) × (16 ≤ length (now out)) ⌝ }
     ensures { λ r. ⌜ now (out .exit) ≡ take 16 (now (text .entry)) ++ drop 16 (now (out .entry)) ⌝ }
@@ -32,7 +34,7 @@ fn copy_block(text: &[u8], out: &mut [u8])
     }
 }
 
-// Fewer bytes than a block has.
+// The first n bytes one by one, for fewer than a block has.
 fn copy_few(text: &[u8], n: usize, out: &mut [u8])
     requires { ⌜ (n ≤ length (now text)) × (n ≤ length (now out)) ⌝ }
     ensures { λ r. ⌜ now (out .exit) ≡ take n (now (text .entry)) ++ drop n (now (out .entry)) ⌝ }
@@ -44,7 +46,7 @@ fn copy_few(text: &[u8], n: usize, out: &mut [u8])
     }
 }
 
-// Block by block: the last one ends where the bytes end, and writes some of them again.
+// The first n bytes block by block: the last one ends where the bytes end, and writes some of them again.
 fn copy_many(text: &[u8], n: usize, out: &mut [u8])
     requires { ⌜ (16 ≤ n) × (n ≤ length (now text)) × (n ≤ length (now out)) ⌝ }
     ensures { λ r. ⌜ now (out .exit) ≡ take n (now (text .entry)) ++ drop n (now (out .entry)) ⌝ }
@@ -58,7 +60,7 @@ fn copy_many(text: &[u8], n: usize, out: &mut [u8])
     copy_block(&text[last..], &mut out[last..]);
 }
 
-// As much of a text as the output has places for.
+// As much of a text as the output has places for, at its start.
 pub fn copy(text: &[u8], out: &mut [u8])
     ensures { λ r. ⌜ now (out .exit)
         ≡ take (length (now (out .entry))) (now (text .entry)) ++ drop (length (now (text .entry))) (now (out .entry)) ⌝ }

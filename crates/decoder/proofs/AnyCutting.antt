@@ -1,5 +1,4 @@
 -- Many calls by one caller: the cutting of the text does not matter, and the state always passes its tests.
--- Assumes nothing.
 use mathlib.Core.Path.{_≡_, refl, sym, ap, _∙_}
 use Prim.Native.Nat.{ℕ, _+_, _≤_}
 use mathlib.Core.Bool.{Bool, true, false, cond, true≢false}
@@ -202,8 +201,8 @@ fed-as-whole room row calls out out′ list′ q h granted =
 
 pub feeds-called : (r : Course Caller) (c : Call) (out′ list′ : List ℕ) (q : Fed)
     → Feeds (r .caller .state) (c .piece) (c .out) (r .caller .list) out′ list′ q
-    → called feedOf r c ≡ ifGranted (told.written (q .answer)) (record {
-      caller = record { state = q .state; list = list′; written = r .caller .written ++ take (getD (told.written (q .answer)) 1 0) out′ };
+    → called feedOf r c ≡ ifGranted (told.toldWritten (q .answer)) (record {
+      caller = record { state = q .state; list = list′; written = r .caller .written ++ take (getD (told.toldWritten (q .answer)) 1 0) out′ };
       pieces = r .pieces ++ c .piece ∷ [];
     }) r
 feeds-called r c out′ list′ q h =

@@ -1,5 +1,4 @@
 -- The checks before a call: each way through them, and what a granted one says.
--- Assumes nothing.
 use mathlib.Core.Path.{_≡_, sym, ap, _∙_}
 use Prim.Native.Nat.{ℕ, _+_, _*_, _≤_, _<_}
 use mathlib.Core.Bool.{true, false, true≢false}
@@ -8,7 +7,7 @@ use lib.Dec.{ltb}
 use borrow.Author.Tests.{lt-ltb, le-ltb, ltb-false}
 use Rattle.theory.proofs.Cases.{split}
 use Rattle.terms.specs.Limits.{limit, entryWidth}
-use Rattle.terms.specs.Told.{refusal, isGranted}
+use Rattle.terms.specs.Told.{toldRefusal, isGranted}
 use Rattle.terms.specs.declared.Decoder.{Decoder}
 use Rattle.terms.specs.declared.Refusal.{Refusal}
 use Rattle.terms.proofs.ToldBack.{no-zero}
@@ -48,11 +47,11 @@ module _ (d : Decoder) (more row : ℕ) where
   admits e = granted-admits (0 ∷ []) (ap isGranted (sym e)) .0
 
   -- and what was refused is refused whatever the call would say
-  pub refused-so : (r : Refusal) → refusal r ≡ admitSays d more row → (says : List ℕ) → refusal r ≡ admitted d more row says
+  pub refused-so : (r : Refusal) → toldRefusal r ≡ admitSays d more row → (says : List ℕ) → toldRefusal r ≡ admitted d more row says
   refused-so r e says = split (sound d)
       (λ s. split (ltb limit (d .taken + more))
       (λ o. rw (s, o) at e ∙ rw (s, o))
       (λ o. split (ltb row (entryWidth * d .room))
       (λ k. rw (s, o, k) at e ∙ rw (s, o, k))
-      (λ k. let q : refusal r ≡ 0 ∷ [] = rw (s, o, k) at e in absurd (true≢false (sym (ap isGranted q) ∙ no-zero r)))))
+      (λ k. let q : toldRefusal r ≡ 0 ∷ [] = rw (s, o, k) at e in absurd (true≢false (sym (ap isGranted q) ∙ no-zero r)))))
       (λ s. rw s at e ∙ rw s)

@@ -1,5 +1,4 @@
 -- The room that is enough for a feed and for finish: what is pending becomes one segment, with or without the next bytes.
--- Assumes nothing.
 use mathlib.Core.Path.{_≡_, ap, _∙_}
 use Prim.Native.Nat.{ℕ, _+_, _-_, _*_, _≤_}
 use mathlib.Core.Bool.{true, false}
@@ -21,10 +20,10 @@ use Rattle.terms.specs.declared.Decoder.{Decoder}
 use Rattle.utf8.specs.Bytes.{bytes}
 use Rattle.utf8.specs.Scalar.{utf8}
 use Rattle.utf8.proofs.RowsOfBytes.{bytes-division, bytes-hold}
-use Rattle.utf8_pending.specs.Tail.{settled, four}
+use Rattle.utf8_pending.specs.Tail.{firstSettled, four}
 use Rattle.utf8_pending.proofs.SettledFirst.{settled-nil, settled-sure, settled-open}
 use Rattle.utf8_pending.proofs.SeamIsFirst.{seam-pending, seam-over, seam-inside, seam-behind}
-use Rattle.decoder.specs.Settling.{need}
+use Rattle.decoder.specs.Inside.Acting.{need}
 use Rattle.decoder.proofs.SpanOfSettled.{need-append, parts-small}
 use Rattle.decoder.proofs.TestsAsFacts.{sound-is}
 use Rattle.decoder.specs.State.{left, sound, numbers, opened, fed, ended}
@@ -38,11 +37,11 @@ each = length (utf8 .write replacement)
 one-few : (s : Segment Kind) (n : ℕ) → n ≤ size s → n ≤ mostPending → need (s ∷ []) + n ≤ each + size s
 one-few s n l h = rw append-nil (split (isDamage (s .tag)) (λ e. rw e (omega arith)) (λ e. rw e (omega arith)))
 
-settled-few : (text : List ℕ) (n : ℕ) → n ≤ total size (settled text) → n ≤ mostPending → need (settled text) + n ≤ each + total size (settled text)
+settled-few : (text : List ℕ) (n : ℕ) → n ≤ total size (firstSettled text) → n ≤ mostPending → need (firstSettled text) + n ≤ each + total size (firstSettled text)
 settled-few [] n l h = rw settled-nil (omega arith)
 settled-few (x ∷ xs) n l h = split (bytes x xs .sure)
     (λ e.
-    let k : total size (settled (x ∷ xs)) ≡ size (first bytes x xs) = ap (total size) (settled-sure x xs e) ∙ add-zero (size (first bytes x xs)) in
+    let k : total size (firstSettled (x ∷ xs)) ≡ size (first bytes x xs) = ap (total size) (settled-sure x xs e) ∙ add-zero (size (first bytes x xs)) in
     rw (k, settled-sure x xs e) (one-few (first bytes x xs) n (omega (arith, k)) h))
     (λ e. rw (settled-open x xs e) (omega arith))
 
@@ -51,14 +50,14 @@ short = pending-short bytes-division mostPending bytes-hold
 
 module _ (tail piece : List ℕ) (begins : pending bytes tail ≡ true) where
   joined-few : need (parts bytes (tail ++ piece) .done) ≤ each * length piece + each
-  joined-few = split (eqb (total size (settled (four tail piece))) 0)
+  joined-few = split (eqb (total size (firstSettled (four tail piece))) 0)
       (λ e. rw (seam-pending tail piece begins (eqb-true _ _ e)) (omega arith))
       (λ e.
-      let some : total size (settled (four tail piece)) ≡ 0 → ⊥ = eqb-false _ _ e in
-      let n : ℕ = total size (settled (four tail piece)) in
+      let some : total size (firstSettled (four tail piece)) ≡ 0 → ⊥ = eqb-false _ _ e in
+      let n : ℕ = total size (firstSettled (four tail piece)) in
       let rest : List ℕ = drop (n - length tail) piece in
       let o = seam-over tail piece begins some in
-      rw (seam-behind tail piece begins some, need-append (settled (four tail piece)) (parts bytes rest .done))
+      rw (seam-behind tail piece begins some, need-append (firstSettled (four tail piece)) (parts bytes rest .done))
       (omega (arith, settled-few (four tail piece) (length tail) o (short tail begins), seam-inside tail piece begins some, o, parts-small rest, length-drop (n - length tail) piece)))
 
 ended-few : (tail : List ℕ) → pending bytes tail ≡ true → need (cut bytes tail) ≤ each

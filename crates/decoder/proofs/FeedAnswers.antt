@@ -1,20 +1,18 @@
 -- What a feed answers: each way through its checks meets the promise.
--- Assumes nothing.
-use mathlib.Core.Path.{_≡_, refl, sym, ap, subst, _∙_}
-use Prim.Native.Nat.{ℕ, _+_, _≤_, _<_}
-use mathlib.Core.List.{List, [], _∷_, _++_, foldl-append}
-use lib.ListN.{length, take, drop, take-append-drop}
+use mathlib.Core.Path.{_≡_, refl, sym, subst, _∙_}
+use Prim.Native.Nat.{ℕ, _+_, _*_, _≤_, _<_}
+use native.Mathlib.Nat.{zero-add}
+use mathlib.Core.List.{List, [], _∷_, _++_}
+use lib.ListN.{length}
 use borrow.Author.Tests.{lt-ltb, le-ltb}
 use native.Mathlib.Omega.{arith}
 use Rattle.theory.specs.Reader.{Segment, parts}
 use Rattle.theory.specs.Stream.{State}
-use Rattle.theory.specs.Table.{Kind, isDamage}
+use Rattle.theory.specs.Table.{Kind}
 use Rattle.theory.specs.Tally.{total, size, Log}
 use Rattle.theory.proofs.Divisions.{total-append, parts-size}
-use Rattle.theory.proofs.TalliesAdd.{log-is}
-use Rattle.terms.specs.Form.{mend}
-use Rattle.terms.specs.Limits.{limit, entryWidth}
-use Rattle.terms.specs.Told.{refusal}
+use Rattle.terms.specs.Limits.{limit}
+use Rattle.terms.specs.Told.{toldRefusal}
 use Rattle.terms.specs.Writing.{roomed}
 use Rattle.terms.specs.declared.Decoder.{Decoder}
 use Rattle.terms.specs.declared.First.{First}
@@ -23,20 +21,17 @@ use Rattle.terms.specs.declared.Refusal.the-variants.{NoRoom}
 use Rattle.terms.specs.declared.Written.the-variants.{Count, Refused}
 use Rattle.terms.proofs.ToldBack.{no-zero}
 use Rattle.utf8.specs.Bytes.{bytes}
-use Rattle.utf8.specs.Scalar.{utf8}
-use Rattle.utf8_pending.specs.Tail.{settled}
+use Rattle.utf8_pending.specs.Tail.{firstSettled, settledSize}
 use Rattle.decoder.specs.Checks.{admitSays}
-use Rattle.decoder.proofs.ChecksInOrder.{admits, admitted-then, refused-so}
-use Rattle.decoder.specs.Acting.{places, numbers, Work, work}
-use Rattle.decoder.specs.Settling.{need, actedAll, neededFor, Settles}
-use Rattle.decoder.specs.declared.walk.Settled.{Settled}
-use Rattle.decoder.proofs.SpanOfSettled.{need-append, need-small}
-use Rattle.decoder.proofs.SettledByReader.{Told, told}
-use Rattle.decoder.specs.State.{opened, fed, closed}
+use Rattle.decoder.specs.State.{opened, fed}
 use Rattle.decoder.specs.Feeding.{Feeds}
-use Rattle.decoder.specs.Steps.{tallyOf, keeping, Rests, behind, Answers}
+use Rattle.decoder.specs.Inside.Acting.{need, places, toldOf, Stands, Work, work, reached, Fits, Ready, acted}
+use Rattle.decoder.specs.Inside.Steps.{tallyOf, keeping, Rests, behind, Answers}
 use Rattle.decoder.specs.declared.Fed.{Fed}
-use Rattle.decoder.proofs.ActsAsLogged.{logOf, acts-all}
+use Rattle.decoder.proofs.ChecksInOrder.{admits, admitted-then, refused-so}
+use Rattle.decoder.proofs.SpanOfSettled.{need-append, need-small}
+use Rattle.decoder.proofs.SettledByReader.{Told, told, stands}
+use Rattle.decoder.proofs.SegmentsAct.{logs-long, acted-append, ready-front, ready-behind}
 
 -- ---- only the output may be too short
 
@@ -48,19 +43,16 @@ module _ (d : Decoder) (taken : ℕ) (s : State Log) (out list : List ℕ) where
       let says : roomed (length out) (s .kept .out) ≡ 3 ∷ n ∷ [] = rw (lt-ltb (length out) (length (s .kept .out)) l, e) in
       record { answer = rw says; state = rw says; output = rw says; entries = rw says }
 
-  pub answers-done : (w : Work) (q : Decoder) → logOf w ≡ s .kept → w .tally .written ≡ length (s .kept .out) → w .tally .written ≤ length out
-      → drop (w .tally .written) (w .out) ≡ drop (w .tally .written) out → q ≡ keeping (s .left) (w .tally) taken (d .room)
+  pub answers-done : (w : Work) (q : Decoder) → w ≡ reached out (s .kept) → length (s .kept .out) ≤ length out
+      → q ≡ keeping (s .left) (w .tally) taken (d .room)
       → Answers d taken s out list (w .out) (w .list) (record { answer = Count (w .tally .written); state = q })
-  answers-done w q k e h same held =
-      let n = w .tally .written in
-      let l : length (s .kept .out) ≤ length out = omega arith in
-      let says : roomed (length out) (s .kept .out) ≡ 0 ∷ length (s .kept .out) ∷ [] = rw (le-ltb (length out) (length (s .kept .out)) l) in
-      let f : take n (w .out) ≡ s .kept .out = ap (λ (m : Log). m .out) k in
+  answers-done w q e h held =
+      let says : roomed (length out) (s .kept .out) ≡ 0 ∷ length (s .kept .out) ∷ [] = rw (le-ltb (length out) (length (s .kept .out)) h) in
       record {
         answer = rw (says, e);
-        state = rw says (held ∙ ap (λ (m : Log). closed d taken (record { left = s .left; kept = m })) k);
-        output = rw says (sym (take-append-drop n (w .out)) ∙ rw (f, same, e));
-        entries = rw says (ap (λ (m : Log). m .list) k);
+        state = rw says (held ∙ rw e);
+        output = rw (says, e);
+        entries = rw (says, e);
       }
 
 -- where nothing is settled yet, the seam is kept
@@ -69,63 +61,69 @@ pub answers-still : (d : Decoder) (taken : ℕ) (piece out list seam : List ℕ)
     → Answers d taken (fed d piece list) out list out list (record { answer = Count 0; state = q })
 answers-still d taken piece out list seam q e held =
     subst (λ (s : State Log). Answers d taken s out list out list (record { answer = Count 0; state = q })) (sym e)
-    (answers-done d taken (record { left = seam; kept = opened d list .kept }) out list (work (tallyOf d) out list) q refl refl (omega arith) refl held)
+    (answers-done d taken (record { left = seam; kept = opened d list .kept }) out list (work (tallyOf d) out list) q refl (omega arith) held)
 
 -- ---- the settled segment of a seam, and then a text
 
 module _ (d : Decoder) (seg : First) (seam rest list : List ℕ) (p : Rests d seg seam rest list) where
   abbrev all : List (Segment Kind)
-  all = settled seam ++ parts bytes rest .done
+  all = firstSettled seam ++ parts bytes rest .done
 
   seen : Told seg seam
   seen = told seg seam (p .tells)
 
+  pub rests-small : length rest ≤ limit
+  rests-small = omega (arith, p .sums)
+
   all-need : need all ≡ places seg + need (parts bytes rest .done)
-  all-need = need-append (settled seam) (parts bytes rest .done) ∙ rw (← seen .places-is)
+  all-need = need-append (firstSettled seam) (parts bytes rest .done) ∙ rw (← seen .places-is)
 
   all-size : d .whole + d .damaged + total size all ≤ limit
-  all-size = omega (arith, p .sums, total-append size (settled seam) (parts bytes rest .done), parts-size bytes rest)
+  all-size = omega (arith, p .sums, total-append size (firstSettled seam) (parts bytes rest .done), parts-size bytes rest)
 
-  behind-need : length (behind d seam rest list .kept .out) ≡ need all
-  behind-need = ap (λ (l : Log). length (l .out)) (log-is isDamage (mend utf8) numbers entryWidth (d .room) (opened d list .kept) all)
+  -- how many places they need
+  needs : (n : ℕ) → n ≡ places seg + need (parts bytes rest .done) → n ≡ length (behind d seam rest list .kept .out)
+  needs n e = e ∙ sym (logs-long (d .room) (opened d list .kept) all ∙ zero-add (need all) ∙ all-need)
 
-  needed-is : neededFor seg rest ≡ length (behind d seam rest list .kept .out)
-  needed-is = omega (arith, behind-need, all-need, need-small all, all-size)
+  pub needs-few : places seg + need (parts bytes rest .done) ≤ 3 * limit
+  needs-few = omega (arith, all-need, need-small all, all-size)
 
-  -- what they have done
-  module _ (taken : ℕ) (out out′ list′ : List ℕ) (r : Settled) (s : Settles (d .room) seg seam rest (work (tallyOf d) out list) out′ list′ r) where
-    need-is : r .needed ≡ length (behind d seam rest list .kept .out)
-    need-is = s .needed-is ∙ needed-is
+  module _ (taken : ℕ) (out : List ℕ) where
+    pub behind-short : (n : ℕ) → n ≡ places seg + need (parts bytes rest .done) → length out < n
+        → Answers d taken (behind d seam rest list) out list out list (record { answer = Refused (NoRoom n); state = d })
+    behind-short n e = answers-short d taken (behind d seam rest list) out list n (needs n e)
 
-    pub behind-short : length out < r .needed
-        → Answers d taken (behind d seam rest list) out list out′ list′ (record { answer = Refused (NoRoom (r .needed)); state = d })
-    behind-short h =
-        let k : length out < neededFor seg rest = rw (s .needed-is) at h in
-        let e : work (r .tally) out′ list′ ≡ work (tallyOf d) out list = s .work-is ∙ rw (lt-ltb (length out) (neededFor seg rest) k) in
-        let f : out′ ≡ out = ap (λ (w : Work). w .out) e in
-        let g : list′ ≡ list = ap (λ (w : Work). w .list) e in
-        rw (f, g) (answers-short d taken (behind d seam rest list) out list (r .needed) need-is h)
+    module _ (h : places seg + need (parts bytes rest .done) ≤ length out) where
+      abbrev begins : Work
+      begins = work (tallyOf d) out list
 
-    pub behind-done : r .needed ≤ length out → (q : Decoder) → q ≡ keeping (parts bytes rest .left) (r .tally) taken (d .room)
-        → Answers d taken (behind d seam rest list) out list out′ list′ (record { answer = Count (r .tally .written); state = q })
-    behind-done h q held =
-        let w : Work = work (r .tally) out′ list′ in
-        let z : Work = work (tallyOf d) out list in
-        let k : neededFor seg rest ≤ length out = rw (s .needed-is) at h in
-        let g : w ≡ actedAll (d .room) z all
-        = s .work-is
-        ∙ rw (le-ltb (length out) (neededFor seg rest) k, seen .acts (d .room) z)
-        (sym (foldl-append _ z (settled seam) (parts bytes rest .done))) in
-        let a = acts-all (d .room) all z (record { enough = omega (arith, h, need-is, behind-need); row = p .row; sums = all-size; counts = p .counts }) in
-        let n : w .tally .written ≡ length (behind d seam rest list .kept .out) = omega (arith, ap (λ (u : Work). u .tally .written) g, a .grown, behind-need) in
-        let f : drop (w .tally .written) (w .out) ≡ drop (w .tally .written) out
-        = subst (λ (u : Work). drop (u .tally .written) (u .out) ≡ drop (u .tally .written) out) (sym g) (a .same) in
-        answers-done d taken (behind d seam rest list) out list w q (ap logOf g ∙ a .kept) n (omega (arith, h, n, need-is)) f held
+      ready : Ready (d .room) all begins
+      ready = record { enough = omega (arith, h, all-need); row = p .row; sums = all-size; counts = p .counts }
+
+      pub seam-ready : Stands seg seam × Fits (d .room) (places seg) (settledSize seg) begins
+      seam-ready =
+          (stands seg seam (p .tells), rw (seen .size-is, seen .places-is) (ready-front (d .room) (firstSettled seam) (parts bytes rest .done) begins ready))
+
+      -- the segment at the seam has acted
+      module _ (v : Work) (e : v ≡ acted (d .room) (toldOf seg seam) begins) where
+        seam-acted : v ≡ acted (d .room) (firstSettled seam) begins
+        seam-acted = e ∙ rw (seen .settled-is)
+
+        pub rest-ready : Ready (d .room) (parts bytes rest .done) v
+        rest-ready = rw seam-acted (ready-behind (d .room) (firstSettled seam) (parts bytes rest .done) begins ready)
+
+        -- and so have those of the text
+        pub behind-done : (w : Work) → w ≡ acted (d .room) (parts bytes rest .done) v
+            → (q : Decoder) → q ≡ keeping (parts bytes rest .left) (w .tally) taken (d .room)
+            → Answers d taken (behind d seam rest list) out list (w .out) (w .list) (record { answer = Count (w .tally .written); state = q })
+        behind-done w f q held =
+            let g : w ≡ acted (d .room) all begins = f ∙ rw seam-acted (acted-append (d .room) (firstSettled seam) (parts bytes rest .done) begins) in
+            answers-done d taken (behind d seam rest list) out list w q g (omega (arith, h, needs _ refl)) held
 
 -- ---- the checks before
 
 module _ (d : Decoder) (piece out list : List ℕ) where
-  pub feed-refused : (r : Refusal) → refusal r ≡ admitSays d (length piece) (length list)
+  pub feed-refused : (r : Refusal) → toldRefusal r ≡ admitSays d (length piece) (length list)
       → Feeds d piece out list out list (record { answer = Refused r; state = d })
   feed-refused r q =
       let e = refused-so d (length piece) (length list) r q (roomed (length out) (fed d piece list .kept .out)) in

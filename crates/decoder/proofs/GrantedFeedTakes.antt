@@ -1,11 +1,10 @@
 -- What a granted feed has taken and written: the piece, within the limit, and places within the output.
--- Assumes nothing.
 use mathlib.Core.Path.{_≡_, sym, ap, _∙_}
 use Prim.Native.Nat.{ℕ, _+_, _≤_}
 use mathlib.Core.List.{List, [], _∷_}
 use lib.ListN.{length, getD}
 use Rattle.terms.specs.Limits.{limit}
-use Rattle.terms.specs.Told.{written, isGranted, ifGranted}
+use Rattle.terms.specs.Told.{toldWritten, isGranted, ifGranted}
 use Rattle.terms.specs.declared.Decoder.{Decoder}
 use Rattle.terms.specs.declared.Written.the-variants.{Count}
 use Rattle.decoder.specs.State.{fed, closed}
@@ -15,7 +14,7 @@ use Rattle.decoder.proofs.AnyCutting.{feed-grants}
 
 module _ {d : Decoder} {piece out list out′ list′ : List ℕ} {r : Fed} (f : Feeds d piece out list out′ list′ r) (n : ℕ) (e : r .answer ≡ Count n) where
   says : feedSays d piece out list ≡ 0 ∷ n ∷ []
-  says = sym (f .answer) ∙ ap written e
+  says = sym (f .answer) ∙ ap toldWritten e
 
   pub taken-is : r .state .taken ≡ d .taken + length piece
   taken-is =

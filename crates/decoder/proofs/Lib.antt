@@ -1,19 +1,32 @@
-pub mod ActsAsLogged
+-- Segments act: one run of them behind another does what the log of both says, and what is enough for both is enough for each
+pub mod SegmentsAct
+-- What a feed answers: each way through its checks meets the promise
 pub mod FeedAnswers
+-- A piece behind what is pending
 pub mod SeamSettled
+-- What finish answers: pending bytes are one damage, and each way through its checks meets the promise
 pub mod FinishAnswers
+-- Many calls by one caller: the cutting of the text does not matter, and the state always passes its tests
 pub mod AnyCutting
+-- What a granted feed has taken and written: the piece, within the limit, and places within the output
 pub mod GrantedFeedTakes
+-- What a feed keeps, apart from the list: the state that it hands back, and the state of pieces one by one
 pub mod StateKept
+-- What the decoder's calls tell loses nothing: two answers that tell the same are equal
 pub mod ToldBack
+-- Two answers that the promise of start, feed or finish allows are equal, and they leave the same
 pub mod OneAnswer
+-- The room that is enough for a feed and for finish: what is pending becomes one segment, with or without the next bytes
 pub mod Enough
+-- The tests of a state, as facts about its numbers
 pub mod TestsAsFacts
+-- The checks before a call: each way through them, and what a granted one says
 pub mod ChecksInOrder
-pub mod AdmissionToldBack
+-- An entry in the list: it is stored where there is room for it
 pub mod EntryStored
-pub mod FitsOrUnchanged
+-- The span of what is settled: what is left stands behind it, and it takes at most three places for each byte
 pub mod SpanOfSettled
+-- What the reader told of a text is the settled segment that stands first in it, with its bytes and its places
 pub mod SettledByReader
+-- The walks over the settled segments of a text: the one that counts, and the one in which each acts
 pub mod SettledWalk
-pub mod SettledOnce

@@ -1,5 +1,4 @@
 -- Two answers that the promise of start, feed or finish allows are equal, and they leave the same.
--- Assumes nothing.
 use mathlib.Core.Path.{_≡_, sym, _∙_}
 use Prim.Native.Nat.{ℕ}
 use mathlib.Core.List.{List}
@@ -9,11 +8,11 @@ use Rattle.decoder.specs.Feeding.{Starts, Feeds, Finishes}
 use Rattle.decoder.specs.declared.Started.{Started}
 use Rattle.decoder.specs.declared.Fed.{Fed}
 use Rattle.decoder.specs.declared.Finished.{Finished}
-use Rattle.decoder.proofs.ToldBack.{told-begun, told-total}
+use Rattle.decoder.proofs.ToldBack.{told-opening, told-total}
 
 pub starts-once : {room : ℕ} {q r : Started} → Starts room q → Starts room r → q ≡ r
 starts-once {q = q} {r = r} f g =
-    let a = told-begun (q .answer) (r .answer) (f .answer ∙ sym (g .answer)) in
+    let a = told-opening (q .answer) (r .answer) (f .answer ∙ sym (g .answer)) in
     let s = f .state ∙ sym (g .state) in
     λ i. record { answer = a i; state = s i }
 

@@ -1,5 +1,4 @@
 -- A piece behind what is pending: nothing is settled yet, or the segment at their seam is, and the piece goes on behind it.
--- Assumes nothing.
 use mathlib.Core.Path.{_≡_, sym, ap, _∙_}
 use Prim.Native.Nat.{ℕ, _+_, _-_, _≤_}
 use mathlib.Core.List.{List, [], _∷_, foldl}
@@ -11,17 +10,17 @@ use Rattle.theory.specs.Stream.{State}
 use Rattle.theory.specs.Table.{Kind}
 use Rattle.theory.specs.Tally.{total, size, Log}
 use Rattle.terms.specs.Limits.{limit, mostPending}
-use Rattle.terms.specs.Told.{first, firstSays}
+use Rattle.terms.specs.Told.{toldFirst, firstSays}
 use Rattle.terms.specs.declared.Decoder.{Decoder}
 use Rattle.terms.specs.declared.First.{First}
 use Rattle.utf8.specs.Bytes.{bytes}
-use Rattle.utf8_pending.specs.Tail.{settled, four}
+use Rattle.utf8_pending.specs.Tail.{firstSettled, four}
 use Rattle.utf8_pending.proofs.SeamIsFirst.{seam-pending, seam-over, seam-inside, seam-behind}
 use Rattle.decoder.specs.Checks.{admitSays}
 use Rattle.decoder.proofs.TestsAsFacts.{Sound, sound-is}
 use Rattle.decoder.proofs.ChecksInOrder.{Admits, admits}
 use Rattle.decoder.specs.State.{left, act, opened, fed}
-use Rattle.decoder.specs.Steps.{Rests, behind}
+use Rattle.decoder.specs.Inside.Steps.{Rests, behind}
 
 -- the pending bytes of a state that passes its tests
 pub left-long : (d : Decoder) → length (d .held) ≡ mostPending → Sound d → length (left d) ≡ d .pending
@@ -39,7 +38,7 @@ module _ (d : Decoder) (piece list seam : List ℕ) (g : admitSays d (length pie
   passes = sound-is d (granted .tests)
 
   abbrev taken : ℕ
-  taken = total size (settled seam)
+  taken = total size (firstSettled seam)
 
   pub join-within : d .taken + length piece ≤ limit
   join-within = granted .within
@@ -62,7 +61,7 @@ module _ (d : Decoder) (piece list seam : List ℕ) (g : admitSays d (length pie
     pub join-behind : fed d piece list ≡ behind d seam (drop (taken - d .pending) piece) list
     join-behind = ap (streamed d list) (seam-behind (left d) piece (passes .tail .begins) (rw seam-is at some)) ∙ rw (long, seam-is)
 
-    pub join-rests : (seg : First) → first seg ≡ firstSays bytes seam → Rests d seg seam (drop (taken - d .pending) piece) list
+    pub join-rests : (seg : First) → toldFirst seg ≡ firstSays bytes seam → Rests d seg seam (drop (taken - d .pending) piece) list
     join-rests seg e =
         let b = passes .numbers in
         record {

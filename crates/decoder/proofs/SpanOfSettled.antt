@@ -1,5 +1,4 @@
 -- The span of what is settled: what is left stands behind it, and it takes at most three places for each byte.
--- Assumes nothing.
 use mathlib.Core.Path.{_≡_, sym, ap, _∙_}
 use Prim.Native.Nat.{ℕ, _+_, _*_, _≤_}
 use native.Mathlib.Nat.{mul-add}
@@ -15,7 +14,8 @@ use Rattle.theory.proofs.Divisions.{written-append, length-written, parts-text,
 use Rattle.terms.specs.Form.{mend}
 use Rattle.utf8.specs.Bytes.{bytes}
 use Rattle.utf8.specs.Scalar.{utf8}
-use Rattle.decoder.specs.Settling.{need, spanOf}
+use Rattle.decoder.specs.Inside.Acting.{need}
+use Rattle.decoder.specs.Inside.Span.{spanOf}
 
 pub need-append : (ss ts : List (Segment Kind)) → need (ss ++ ts) ≡ need ss + need ts
 need-append ss ts = rw (written-append (mend utf8) ss ts, length-append)

@@ -1,5 +1,4 @@
 -- What a feed keeps, apart from the list: the state that it hands back, and the state of pieces one by one.
--- Assumes nothing.
 use mathlib.Core.Path.{_≡_, refl, sym, ap, _∙_}
 use Prim.Native.Nat.{ℕ, zero, suc, _+_, _≤_}
 use native.Mathlib.Nat.{add-zero}

@@ -1,5 +1,4 @@
 -- The tests of a state, as facts about its numbers.
--- Assumes nothing.
 use mathlib.Core.Path.{_≡_, sym, _∙_}
 use Prim.Native.Nat.{_+_, _*_, _≤_}
 use mathlib.Core.Bool.{true, false}

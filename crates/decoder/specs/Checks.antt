@@ -1,20 +1,12 @@
 -- The checks before a call: whether a state may take it.
--- Assumes nothing.
 use Prim.Native.Nat.{ℕ, _*_}
 use mathlib.Core.Bool.{cond}
 use mathlib.Core.List.{List, [], _∷_}
 use lib.Dec.{ltb}
 use Rattle.terms.specs.Limits.{entryWidth}
 use Rattle.terms.specs.Checks.{tested}
-use Rattle.terms.specs.Told.{refusal}
 use Rattle.terms.specs.declared.Decoder.{Decoder}
 use Rattle.decoder.specs.Tests.{sound}
-use Rattle.decoder.specs.declared.checks.Admission.{Admission}
-use Rattle.decoder.specs.declared.checks.Admission.the-variants.{Granted, Refused}
-
-abbrev pub admission : Admission → List ℕ
-admission Granted = 0 ∷ []
-admission (Refused r) = refusal r
 
 -- THE CHECKS before a call that brings so many bytes and lends a list of so many numbers: refusal 8, 2, 7 in this order; then
 -- what the call says

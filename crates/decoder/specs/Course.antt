@@ -1,6 +1,5 @@
 -- A text that one caller feeds in pieces: the calls one after another, by what they promise, and what they give together.
 -- No contract cites these; the theorems about many calls do.
--- Assumes nothing.
 use mathlib.Core.Path.{_≡_}
 use Prim.Native.Nat.{ℕ, _+_}
 use mathlib.Core.Bool.{true}
@@ -80,9 +79,9 @@ pub record Holds (room : ℕ) (row text : List ℕ) (h : Caller) : Type 0 where
 -- WHAT FINISH THEN GIVES, where it leaves this in the output and the list: the repaired form, the first entries and the totals
 -- of the text; and the fresh state
 pub record Ends (room : ℕ) (row text : List ℕ) (h : Caller) (out′ list′ : List ℕ) (q : Finished) : Type 0 where
-  pub output : h .written ++ take (getD (feeding.total (q .answer)) 1 0) out′ ≡ repaired utf8 text
+  pub output : h .written ++ take (getD (feeding.toldTotal (q .answer)) 1 0) out′ ≡ repaired utf8 text
   pub entries : list′ ≡ listed room row (cut bytes text)
-  pub totals : drop 2 (feeding.total (q .answer))
+  pub totals : drop 2 (feeding.toldTotal (q .answer))
       ≡ total (wholeOf isDamage) (cut bytes text) ∷ total (damagedOf isDamage) (cut bytes text) ∷ total (countOf isDamage) (cut bytes text) ∷ []
   pub state : q .state ≡ freshOf room
 
@@ -93,5 +92,5 @@ FedAsWhole =
     (room : ℕ) (row : List ℕ) (calls : List Call) (out out′ list′ : List ℕ) (q : Finished)
     → let r = fedAll room row calls in
     Finishes (r .caller .state) out (r .caller .list) out′ list′ q
-    → isGranted (feeding.total (q .answer)) ≡ true
+    → isGranted (feeding.toldTotal (q .answer)) ≡ true
     → Ends room row (join (r .pieces)) (r .caller) out′ list′ q

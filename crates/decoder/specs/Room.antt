@@ -1,5 +1,4 @@
 -- The room that is enough: the most places that a feed of so many bytes can need.
--- Assumes nothing.
 use Prim.Native.Nat.{ℕ, suc, _*_}
 use mathlib.Core.Bool.{cond}
 use lib.ListN.{length}

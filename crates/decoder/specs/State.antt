@@ -1,11 +1,10 @@
 -- The decoder's state: its tests, and what it stands for while a text comes in pieces.
--- Assumes nothing.
 use Prim.Native.Nat.{ℕ}
-use mathlib.Core.List.{List, []}
+use mathlib.Core.List.{List, [], _∷_}
 use lib.ListN.{length}
 use Rattle.theory.specs.Reader.{Segment}
 use Rattle.theory.specs.Stream.{State}
-use Rattle.theory.specs.Tally.{Log, log}
+use Rattle.theory.specs.Tally.{Entry, Log, log}
 use Rattle.theory.specs.Stream as stream
 use Rattle.theory.specs.Table.{Kind, isDamage}
 use Rattle.terms.specs.Form.{mend}
@@ -15,7 +14,10 @@ use Rattle.utf8.specs.Bytes.{bytes}
 use Rattle.utf8.specs.Pending.{padded}
 use Rattle.utf8.specs.Scalar.{utf8}
 pub use Rattle.decoder.specs.Tests.{left, sound}
-pub use Rattle.decoder.specs.Acting.{numbers}
+
+-- a damage entry is two numbers: start in the joined text, and length
+abbrev pub numbers : Entry Kind → List ℕ
+numbers e = e .start ∷ e .long ∷ []
 
 -- what one segment does to the totals, the output and the list
 abbrev pub act : ℕ → Log → Segment Kind → Log

@@ -3,7 +3,8 @@ use terms::Decoder;
 use terms::Refusal;
 ghost use mathlib.Core.Path.{_≡_};
 ghost use Rattle.decoder.specs.Tests.{sound, balanced};
-ghost use Rattle.decoder.specs.Checks.{admission, admitSays};
+ghost use Rattle.decoder.specs.Checks.{admitSays};
+ghost use Rattle.decoder.specs.Inside.Steps.{admission};
 
 // May a state take a call?
 pub(crate) enum Admission {

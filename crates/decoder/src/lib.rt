@@ -14,7 +14,7 @@ ghost use Rattle.decoder.specs.Checks.{admitSays};
 ghost use Rattle.decoder.specs.State.{left, fed};
 ghost use Rattle.decoder.specs.Feeding.{Starts, Feeds, Finishes};
 ghost use Rattle.decoder.specs.Room.{mostFed};
-ghost use Rattle.decoder.specs.Steps as steps;
+ghost use Rattle.decoder.specs.Inside.Steps as steps;
 
 mod checks;
 mod tally;
@@ -22,11 +22,11 @@ mod walk;
 
 // The state of a start, and whether its room was refused.
 pub struct Started {
-    pub answer: Begun,
+    pub answer: Opening,
     pub state: Decoder,
 }
 
-pub enum Begun {
+pub enum Opening {
     Ready,
     Refused(Refusal),
 }
@@ -97,18 +97,20 @@ fn feed_rest(
     ensures { λ r. ⌜ steps.Answers state taken (steps.behind state (now (seam .entry)) (now (rest .entry)) (now (list .entry)))
         (now (out .entry)) (now (list .entry)) (now (out .exit)) (now (list .exit)) r ⌝ }
 {
-    let done = crate::walk::settle(seg, seam, rest, open_tally(state), state.room, out, list);
-    let needed = done.needed;
+    let span = crate::walk::span_of(rest);
+    let needed = crate::tally::places(seg) + span.places;
     if out.len() < needed {
         return Fed {
             answer: Written::Refused(Refusal::NoRoom { needed }),
             state,
         };
     }
-    let at = done.size;
+    let first = crate::tally::act(seg, seam, open_tally(state), state.room, out, list);
+    let all = crate::walk::walk(rest, first, state.room, out, list);
+    let at = span.size;
     Fed {
-        answer: Written::Count(done.tally.written),
-        state: keep(&rest[at..], done.tally, taken, state.room),
+        answer: Written::Count(all.written),
+        state: keep(&rest[at..], all, taken, state.room),
     }
 }
 
@@ -190,12 +192,12 @@ pub fn start(room: usize) -> Started
 {
     if Decoder::ROOM < room {
         return Started {
-            answer: Begun::Refused(Refusal::ListRoom),
+            answer: Opening::Refused(Refusal::ListRoom),
             state: Decoder::fresh(0),
         };
     }
     Started {
-        answer: Begun::Ready,
+        answer: Opening::Ready,
         state: Decoder::fresh(room),
     }
 }

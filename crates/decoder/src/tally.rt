@@ -2,12 +2,13 @@
 use terms::Decoder;
 use terms::First;
 ghost use mathlib.Core.Path.{_≡_};
-ghost use Prim.Native.Nat.{_+_, _*_, _^_, _≤_, _<_};
-ghost use mathlib.Core.List.{_++_};
-ghost use lib.ListN.{length, drop};
+ghost use Prim.Native.Nat.{ℕ, _+_, _*_, _≤_};
+ghost use mathlib.Core.List.{List};
+ghost use lib.ListN.{length};
 ghost use Rattle.terms.specs.Limits.{limit, entryWidth};
 ghost use Rattle.utf8_pending.specs.Tail.{settledSize};
-ghost use Rattle.decoder.specs.Acting as acting;
+ghost use Rattle.decoder.specs.Inside.Acting as acting;
+ghost use Rattle.decoder.specs.Inside.Acting.{work, logOf, reached, Fits};
 
 // What is kept of the segments so far: bytes in whole segments and in damage, damages, and places written in the output.
 pub(crate) struct Tally {
@@ -29,95 +30,54 @@ pub(crate) fn places(seg: First) -> usize
     }
 }
 
-// The repaired form of the segment that stands first in a text, at the start of the output.
-fn put(seg: First, text: &[u8], out: &mut [u8])
-    requires { ⌜ (settledSize seg ≤ length (now text)) × (acting.places seg ≤ length (now out)) ⌝ }
-    ensures { λ r. ⌜ now (out .exit) ≡ acting.form seg (now (text .entry)) ++ drop (acting.places seg) (now (out .entry)) ⌝ }
+// Bytes in whole segments are written as they are.
+fn pass(run: &[u8], tally: Tally, out: &mut [u8]) -> Tally
+    requires { ⌜ (tally .written + length (now run) ≤ length (now out)) × (tally .whole + length (now run) ≤ limit) ⌝ }
+    ensures { λ r. ⌜ ((list : List ℕ) → work r (now (out .exit)) list
+        ≡ reached (now (out .entry)) (acting.passed (now (run .entry)) (logOf (work tally (now (out .entry)) list)))) ⌝ }
 {
-    match seg {
-        First::Nothing => {}
-        First::Whole(n) => copy::copy(&text[..n], out),
-        First::Damage(_) => copy::copy(b"\xEF\xBF\xBD", out),
-        First::Begun(_) => {}
+    let at = tally.written;
+    copy::copy(run, &mut out[at..]);
+    Tally {
+        whole: tally.whole + run.len(),
+        damaged: tally.damaged,
+        count: tally.count,
+        written: at + run.len(),
     }
 }
 
-// The entry of a damage, behind those that are counted, where the list has room for it.
-fn note(seg: First, tally: Tally, room: usize, list: &mut [u32])
-    requires { ⌜ (entryWidth * room ≤ length (now list)) × (tally .whole + tally .damaged + settledSize seg ≤ limit) ⌝ }
-    ensures { λ r. ⌜ now (list .exit) ≡ acting.stored room (now (list .entry)) (tally .count) (acting.notes seg (tally .whole + tally .damaged)) ⌝ }
+// The entry of a damage of so many bytes, behind those that are counted, where the list has room for it.
+fn note(n: usize, tally: Tally, room: usize, list: &mut [u32])
+    requires { ⌜ (entryWidth * room ≤ length (now list)) × (tally .whole + tally .damaged + n ≤ limit) ⌝ }
+    ensures { λ r. ⌜ now (list .exit) ≡ acting.entered room (now (list .entry)) (tally .count) (tally .whole + tally .damaged) n ⌝ }
 {
-    match seg {
-        First::Nothing => {}
-        First::Whole(_) => {}
-        First::Damage(n) => {
-            if room <= tally.count {
-                return;
-            }
-            let at = Decoder::ENTRY * tally.count;
-            let start = tally.whole + tally.damaged;
-            list[at] = start as u32;
-            list[at + 1] = n as u32;
-        }
-        First::Begun(_) => {}
+    if room <= tally.count {
+        return;
+    }
+    let at = Decoder::ENTRY * tally.count;
+    let start = tally.whole + tally.damaged;
+    list[at] = start as u32;
+    list[at + 1] = n as u32;
+}
+
+// U+FFFD is written for a damage of so many bytes, and it is entered and counted.
+fn mend(n: usize, tally: Tally, room: usize, out: &mut [u8], list: &mut [u32]) -> Tally
+    requires { ⌜ Fits room 3 n (work tally (now out) (now list)) ⌝ }
+    ensures { λ r. ⌜ work r (now (out .exit)) (now (list .exit))
+        ≡ reached (now (out .entry)) (acting.mended room n (logOf (work tally (now (out .entry)) (now (list .entry))))) ⌝ }
+{
+    let at = tally.written;
+    copy::copy(b"\xEF\xBF\xBD", &mut out[at..]);
+    note(n, tally, room, list);
+    Tally {
+        whole: tally.whole,
+        damaged: tally.damaged + n,
+        count: tally.count + 1,
+        written: at + 3,
     }
 }
 
-// What a settled segment adds to a tally.
-fn add(seg: First, tally: Tally) -> Tally
-    requires { ⌜ (tally .whole + tally .damaged + settledSize seg ≤ limit) × (tally .count ≤ tally .damaged)
-        × (tally .written + acting.places seg < 2 ^ 64) ⌝ }
-    ensures { λ r. ⌜ r ≡ acting.added seg tally ⌝ }
-{
-    match seg {
-        First::Nothing => tally,
-        First::Whole(n) => Tally {
-            whole: tally.whole + n,
-            damaged: tally.damaged,
-            count: tally.count,
-            written: tally.written + n,
-        },
-        First::Damage(n) => Tally {
-            whole: tally.whole,
-            damaged: tally.damaged + n,
-            count: tally.count + 1,
-            written: tally.written + 3,
-        },
-        First::Begun(_) => tally,
-    }
-}
-
-// Does a segment fit into a text, an output and a list of these lengths, behind a tally? No sum is made that could wrap.
-fn fits(seg: First, tally: Tally, room: usize, text: usize, out: usize, row: usize) -> bool
-    ensures { λ r. ⌜ r ≡ acting.fits room seg tally text out row ⌝ }
-{
-    let size = utf8_pending::settled_size(seg);
-    if text < size {
-        return false;
-    }
-    if out < tally.written {
-        return false;
-    }
-    if out - tally.written < places(seg) {
-        return false;
-    }
-    if row / Decoder::ENTRY < room {
-        return false;
-    }
-    if Decoder::LIMIT < tally.whole {
-        return false;
-    }
-    let rest = Decoder::LIMIT - tally.whole;
-    if rest < tally.damaged {
-        return false;
-    }
-    if rest - tally.damaged < size {
-        return false;
-    }
-    tally.count <= tally.damaged
-}
-
-// The segment that stands first in a text acts, if it is settled; where it does not fit, nothing changes.
+// The segment that stands first in a text acts, if it is settled.
 pub(crate) fn act(
     seg: First,
     text: &[u8],
@@ -126,14 +86,14 @@ pub(crate) fn act(
     out: &mut [u8],
     list: &mut [u32],
 ) -> Tally
-    ensures { λ r. ⌜ acting.work r (now (out .exit)) (now (list .exit))
-        ≡ acting.acted room seg (now (text .entry)) (acting.work tally (now (out .entry)) (now (list .entry))) ⌝ }
+    requires { ⌜ acting.Stands seg (now text) × Fits room (acting.places seg) (settledSize seg) (work tally (now out) (now list)) ⌝ }
+    ensures { λ r. ⌜ work r (now (out .exit)) (now (list .exit))
+        ≡ acting.acted room (acting.toldOf seg (now (text .entry))) (work tally (now (out .entry)) (now (list .entry))) ⌝ }
 {
-    if !fits(seg, tally, room, text.len(), out.len(), list.len()) {
-        return tally;
+    match seg {
+        First::Nothing => tally,
+        First::Whole(n) => pass(&text[..n], tally, out),
+        First::Damage(n) => mend(n, tally, room, out, list),
+        First::Begun(_) => tally,
     }
-    let at = tally.written;
-    put(seg, text, &mut out[at..]);
-    note(seg, tally, room, list);
-    add(seg, tally)
 }

@@ -1,11 +1,13 @@
-// All that is settled of a text behind a seam: how far it reaches, how many places it needs, and what it does.
+// All that is settled of a text: how far it reaches, how many places it needs, and what it does.
 use crate::tally::Tally;
-use terms::First;
 ghost use mathlib.Core.Path.{_≡_};
+ghost use Prim.Native.Nat.{_≤_};
+ghost use lib.ListN.{length};
 ghost use Rattle.theory.specs.Reader.{parts};
+ghost use Rattle.terms.specs.Limits.{limit};
 ghost use Rattle.utf8.specs.Bytes.{bytes};
-ghost use Rattle.decoder.specs.Acting.{work};
-ghost use Rattle.decoder.specs.Settling.{spanOf, actedAll, Settles};
+ghost use Rattle.decoder.specs.Inside.Acting.{work, Ready, acted};
+ghost use Rattle.decoder.specs.Inside.Span.{spanOf};
 
 // How many bytes of a text are settled, and how many places they take in repaired form.
 pub(crate) struct Span {
@@ -13,15 +15,9 @@ pub(crate) struct Span {
     pub places: usize,
 }
 
-// The tally behind a seam and a text, how many places they need, and how many bytes of the text are settled.
-pub(crate) struct Settled {
-    pub tally: Tally,
-    pub needed: usize,
-    pub size: usize,
-}
-
-// The span of what is settled of a text. Places are counted modulo 2^64.
-fn span_of(text: &[u8]) -> Span
+// The span of what is settled of a text.
+pub(crate) fn span_of(text: &[u8]) -> Span
+    requires { ⌜ length (now text) ≤ limit ⌝ }
     ensures { λ r. ⌜ r ≡ spanOf (now (text .entry)) ⌝ }
 {
     let mut at = 0;
@@ -35,15 +31,22 @@ fn span_of(text: &[u8]) -> Span
                 places: n,
             };
         }
-        n = std::num::wrapping_add_usize(n, crate::tally::places(seg));
+        n += crate::tally::places(seg);
         at += size;
     }
 }
 
 // Each settled segment of a text acts in its turn.
-fn walk(text: &[u8], tally: Tally, room: usize, out: &mut [u8], list: &mut [u32]) -> Tally
+pub(crate) fn walk(
+    text: &[u8],
+    tally: Tally,
+    room: usize,
+    out: &mut [u8],
+    list: &mut [u32],
+) -> Tally
+    requires { ⌜ Ready room (parts bytes (now text) .done) (work tally (now out) (now list)) ⌝ }
     ensures { λ r. ⌜ work r (now (out .exit)) (now (list .exit))
-        ≡ actedAll room (work tally (now (out .entry)) (now (list .entry))) (parts bytes (now (text .entry)) .done) ⌝ }
+        ≡ acted room (parts bytes (now (text .entry)) .done) (work tally (now (out .entry)) (now (list .entry))) ⌝ }
 {
     let mut at = 0;
     let mut tally = tally;
@@ -56,37 +59,5 @@ fn walk(text: &[u8], tally: Tally, room: usize, out: &mut [u8], list: &mut [u32]
         }
         tally = crate::tally::act(seg, rest, tally, room, out, list);
         at += size;
-    }
-}
-
-// The segment that a seam begins with acts, and then each settled segment of a text, unless the output has fewer places than they
-// need.
-pub(crate) fn settle(
-    seg: First,
-    seam: &[u8],
-    text: &[u8],
-    tally: Tally,
-    room: usize,
-    out: &mut [u8],
-    list: &mut [u32],
-) -> Settled
-    ensures { λ r. ⌜ Settles room seg (now (seam .entry)) (now (text .entry)) (work tally (now (out .entry)) (now (list .entry)))
-        (now (out .exit)) (now (list .exit)) r ⌝ }
-{
-    let span = span_of(text);
-    let size = span.size;
-    let needed = std::num::wrapping_add_usize(crate::tally::places(seg), span.places);
-    if out.len() < needed {
-        return Settled {
-            tally,
-            needed,
-            size,
-        };
-    }
-    let first = crate::tally::act(seg, seam, tally, room, out, list);
-    Settled {
-        tally: walk(text, first, room, out, list),
-        needed,
-        size,
     }
 }

@@ -1,5 +1,4 @@
 -- Two replies that the promise of the watch allows are equal, and they leave the same state.
--- Assumes nothing.
 use mathlib.Core.Path.{_≡_, sym, _∙_}
 use Prim.Native.Nat.{ℕ}
 use Rattle.terms.specs.declared.Decoder.{Decoder}

@@ -1,5 +1,4 @@
 -- The laws of the watch: a feed with no room for entries serves it, it agrees with any feed of the byte, and bytes one by one are one piece.
--- Assumes nothing.
 use mathlib.Core.Path.{_≡_, sym, ap, _∙_}
 use Prim.Native.Nat.{ℕ, _+_, _*_, _^_, _≤_, _<_}
 use native.Mathlib.Nat.{add-zero, le-trans}
@@ -15,7 +14,7 @@ use Rattle.theory.proofs.Cases.{split}
 use Rattle.theory.proofs.Divisions.{parts-size}
 use Rattle.theory.proofs.TalliesAdd.{whole-damaged, count-damaged}
 use Rattle.terms.specs.Limits.{limit, mostRoom, mostPending, unheld, entryWidth}
-use Rattle.terms.specs.Told.{written, isGranted}
+use Rattle.terms.specs.Told.{toldWritten, isGranted}
 use Rattle.terms.specs.declared.Decoder.{Decoder}
 use Rattle.terms.specs.declared.Refusal.{Refusal}
 use Rattle.terms.specs.declared.Written.the-variants.{Count, Refused}
@@ -124,12 +123,12 @@ module _ (d : Decoder) (roomy : d .room ≤ mostRoom) (b : ℕ) (out list : List
   module _ {out′ list′ : List ℕ} {r : Fed} (h : Feeds (roomOf d 0) (b ∷ []) out list out′ list′ r) where
     pub step-refused : (q : Refusal) → r .answer ≡ Refused q → refusing d ≡ watching d b
     step-refused q e =
-        let g : isGranted bareSays ≡ false = ap isGranted (sym (h .answer) ∙ ap written e) ∙ no-zero q in
+        let g : isGranted bareSays ≡ false = ap isGranted (sym (h .answer) ∙ ap toldWritten e) ∙ no-zero q in
         sym (watching-refused d b (sym same-grant ∙ g))
 
     module _ (n : ℕ) (e : r .answer ≡ Count n) where
       bare-granted : isGranted bareSays ≡ true
-      bare-granted = ap isGranted (sym (h .answer) ∙ ap written e)
+      bare-granted = ap isGranted (sym (h .answer) ∙ ap toldWritten e)
 
       step-grants : isGranted (watchSays d) ≡ true
       step-grants = sym same-grant ∙ bare-granted
@@ -150,7 +149,7 @@ module _ (d : Decoder) (roomy : d .room ≤ mostRoom) (b : ℕ) (out list : List
 -- ---- THE STATE AFTER THE WATCH is that of a feed of this one byte, for any output and list with which it is not refused
 
 pub watch-feed : (d : Decoder) (b : ℕ) (out list out′ list′ ns : List ℕ) (r : Fed) → Feeds d (b ∷ []) out list out′ list′ r
-    → written (r .answer) ≡ 0 ∷ ns → watching d b .state ≡ r .state
+    → toldWritten (r .answer) ≡ 0 ∷ ns → watching d b .state ≡ r .state
 watch-feed d b out list out′ list′ ns r h e =
     let g : isGranted (feedSays d (b ∷ []) out list) ≡ true = ap isGranted (sym (h .answer) ∙ e) in
     let a = feed-grants d (b ∷ []) out list g .admits in

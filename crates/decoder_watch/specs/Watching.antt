@@ -1,5 +1,4 @@
 -- The watch: the state after one byte, and the reply.
--- Assumes nothing.
 use Prim.Native.Nat.{ℕ, _+_}
 use mathlib.Core.List.{List, [], _∷_, foldl}
 use Rattle.terms.specs.Checks.{tested}

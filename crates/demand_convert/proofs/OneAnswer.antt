@@ -1,5 +1,4 @@
 -- A round is fixed by its inputs: any two outcomes that its record allows are equal.
--- Assumes nothing.
 use mathlib.Core.Path.{_≡_, sym, _∙_}
 use mathlib.Core.Bool.{Bool}
 use mathlib.Core.List.{List}

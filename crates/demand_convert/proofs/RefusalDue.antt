@@ -1,6 +1,5 @@
 -- A refusal of a strict conversion is due: on the way there by the check of the text and the most that it can need, on the way back
 -- by the lengths alone.
--- Assumes nothing.
 use mathlib.Core.Path.{_≡_, refl, sym, ap, ap₂, _∙_}
 use Prim.Native.Nat.{ℕ, _≤_}
 use mathlib.Core.Bool.{true, false, true≢false}

@@ -1,5 +1,4 @@
 -- THERE AND BACK: what a strict conversion granted comes back as it was, in all six directions; and what repair gives.
--- Assumes nothing.
 use mathlib.Core.Path.{_≡_, refl}
 use Prim.Native.Nat.{ℕ, _≤_}
 use mathlib.Core.List.{List, [], _∷_}
@@ -16,8 +15,8 @@ use Rattle.utf8.specs.Scalar.{utf8}
 use Rattle.utf8.proofs.FaithfulForm.{utf8-faithful}
 use Rattle.utf16.specs.Scalar.{utf16}
 use Rattle.utf16.proofs.FaithfulForm.{utf16-faithful}
-use Rattle.code_points.specs.Points.{codes, noScalar}
-use Rattle.code_points.proofs.CodePointsDivide.{codes-faithful}
+use Rattle.code_points.specs.Points.{codePoints, noScalar}
+use Rattle.code_points.proofs.CodePointsDivide.{points-faithful}
 
 -- a text of form F, converted to G where that is granted and the form between is within the limit, and converted back
 abbrev pub Returns : (Entry Kind → List ℕ) → (Entry Kind → List ℕ) → Form → Form → Type 0
@@ -34,17 +33,17 @@ bytes-units = comes-back utf8-faithful utf16-faithful damaged damaged (λ e. ref
 pub units-bytes : Returns damaged damaged utf16 utf8
 units-bytes = comes-back utf16-faithful utf8-faithful damaged damaged (λ e. refl)
 
-pub bytes-codes : Returns damaged noScalar utf8 codes
-bytes-codes = comes-back utf8-faithful codes-faithful damaged noScalar (λ e. refl)
+pub bytes-points : Returns damaged noScalar utf8 codePoints
+bytes-points = comes-back utf8-faithful points-faithful damaged noScalar (λ e. refl)
 
-pub codes-bytes : Returns noScalar damaged codes utf8
-codes-bytes = comes-back codes-faithful utf8-faithful noScalar damaged (λ e. refl)
+pub points-bytes : Returns noScalar damaged codePoints utf8
+points-bytes = comes-back points-faithful utf8-faithful noScalar damaged (λ e. refl)
 
-pub units-codes : Returns damaged noScalar utf16 codes
-units-codes = comes-back utf16-faithful codes-faithful damaged noScalar (λ e. refl)
+pub units-points : Returns damaged noScalar utf16 codePoints
+units-points = comes-back utf16-faithful points-faithful damaged noScalar (λ e. refl)
 
-pub codes-units : Returns noScalar damaged codes utf16
-codes-units = comes-back codes-faithful utf16-faithful noScalar damaged (λ e. refl)
+pub points-units : Returns noScalar damaged codePoints utf16
+points-units = comes-back points-faithful utf16-faithful noScalar damaged (λ e. refl)
 
 -- what is repaired is well-formed, a well-formed text stays as it is, and repairing twice is repairing once
 pub record Repairs (F : Form) : Type 0 where

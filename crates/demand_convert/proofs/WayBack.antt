@@ -1,5 +1,4 @@
 -- There and back: what a strict conversion wrote, that the way back gives the text, and that a refusal was due.
--- Assumes nothing.
 use mathlib.Core.Path.{_≡_, sym, ap, subst, _∙_}
 use Prim.Native.Nat.{ℕ, _≤_}
 use mathlib.Core.Bool.{Bool, false}
@@ -11,7 +10,7 @@ use Rattle.theory.specs.Tally.{Entry}
 use Rattle.terms.specs.Form.{Form, converted}
 use Rattle.terms.specs.Limits.{limit}
 use Rattle.terms.specs.Strict.{damages, strictly, limited}
-use Rattle.terms.specs.Told.{refusal, written, isGranted, ifGranted}
+use Rattle.terms.specs.Told.{toldRefusal, toldWritten, isGranted, ifGranted}
 use Rattle.terms.specs.Writing.{outputOf, Writes, convertSays}
 use Rattle.terms.specs.declared.Refusal.{Refusal}
 use Rattle.terms.specs.declared.Written.{Written}
@@ -32,8 +31,8 @@ module _ (refuse : Entry Kind → List ℕ) (F G : Form) (text out : List ℕ) {
   says = convertSays refuse F G (length out) text
 
   -- it refused
-  refused-as : (q : Refusal) → r ≡ Refused q → says ≡ refusal q
-  refused-as q e = sym (w .answer) ∙ ap written e
+  refused-as : (q : Refusal) → r ≡ Refused q → says ≡ toldRefusal q
+  refused-as q e = sym (w .answer) ∙ ap toldWritten e
 
   refused-says : (q : Refusal) → r ≡ Refused q → isGranted says ≡ false
   refused-says q e = ap isGranted (refused-as q e) ∙ no-zero q
@@ -41,7 +40,7 @@ module _ (refuse : Entry Kind → List ℕ) (F G : Form) (text out : List ℕ) {
   -- or it granted, and wrote so many places
   module _ (refuses : Refuses refuse) (n : ℕ) (e : r ≡ Count n) where
     count-says : says ≡ 0 ∷ n ∷ []
-    count-says = sym (w .answer) ∙ ap written e
+    count-says = sym (w .answer) ∙ ap toldWritten e
 
     passed : Granted F G (length out) text
     passed = says-granted refuse F G (length out) text refuses count-says
@@ -76,7 +75,7 @@ module _ (refuse : Entry Kind → List ℕ) (G F : Form) (text between back : Li
     returned = w .output;
   }
 
-  pub back-refused : (q : Refusal) → r ≡ Refused q → (b : Bool) → b ≡ dueBack (refusal q) (length between) (length back) (length text)
+  pub back-refused : (q : Refusal) → r ≡ Refused q → (b : Bool) → b ≡ dueBack (toldRefusal q) (length between) (length back) (length text)
       → Back refuse G F text between back back′ b
   back-refused q e b h = record {
     answer = h ∙ sym (ap answerOf (refused-as refuse G F between back w q e) ∙ rw (no-zero q));
@@ -88,7 +87,7 @@ module _ (refuse refuse′ : Entry Kind → List ℕ) (F G : Form) (text between
     (w : Writes (convertSays refuse F G (length between) text) (converted F G text) between between′ r) where
   -- a refusal that was asked about, where so many places are enough
   pub round-refused : Strict refuse → (back : List ℕ) (q : Refusal) → r ≡ Refused q → (most : ℕ) → (length text ≤ limit → length (converted F G text) ≤ most)
-      → (b : Bool) → b ≡ dueThere (refusal q) (limited text (strictly refuse (damages (F .look) text) (0 ∷ []))) (length text) (length between) most
+      → (b : Bool) → b ≡ dueThere (toldRefusal q) (limited text (strictly refuse (damages (F .look) text) (0 ∷ []))) (length text) (length between) most
       → Round refuse refuse′ F G text between back between′ back b
   round-refused strict back q e most enough b h =
       let g = refused-says refuse F G text between w q e in

@@ -1,5 +1,4 @@
 -- Whether a refusal was due, from what it tells.
--- Assumes nothing.
 use Prim.Native.Nat.{ℕ}
 use mathlib.Core.Bool.{Bool, cond, _&&_, _||_}
 use mathlib.Core.List.{List}

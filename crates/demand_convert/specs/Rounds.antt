@@ -1,5 +1,4 @@
 -- There and back: what two strict conversions leave in the lent buffers, and the answer.
--- Assumes nothing.
 use mathlib.Core.Path.{_≡_}
 use Prim.Native.Nat.{ℕ}
 use mathlib.Core.Bool.{Bool, true}

@@ -1,1 +1,2 @@
+-- Cut by a count of a place, a text is what lies before it
 pub mod CutIsBefore

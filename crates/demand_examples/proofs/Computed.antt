@@ -1,5 +1,4 @@
 -- THE MARKED EXAMPLES HOLD, by computation.
--- Assumes nothing.
 use mathlib.Core.Path.{refl}
 use Rattle.theory.specs.Reader.{cutFrom, cut}
 use Rattle.utf8.specs.Bytes.{rows, bytes}

@@ -1,1 +1,2 @@
+-- THE MARKED EXAMPLES HOLD, by computation
 pub mod Computed

@@ -1,5 +1,4 @@
 -- The paper's marked examples as a single statement about the definitions.
--- Assumes nothing.
 use mathlib.Core.Path.{_≡_}
 use Prim.Native.Nat.{ℕ}
 use mathlib.Core.List.{List, [], _∷_}
@@ -22,8 +21,8 @@ abbrev hurt : Reader Kind → List ℕ → List ℕ
 hurt look text = written (λ e. e .start ∷ e .long ∷ []) (damages look text)
 
 -- the code points of a text, U+FFFD for damage
-abbrev points : Form → List ℕ → List ℕ
-points F text = written (λ s. pointOf F s ∷ []) (cut (F .look) text)
+abbrev pointsOf : Form → List ℕ → List ℕ
+pointsOf F text = written (λ s. pointOf F s ∷ []) (cut (F .look) text)
 
 -- the places of a text, asked for by one of the measures
 abbrev by : (Place → ℕ) → ℕ → List ℕ → Found Place
@@ -35,10 +34,10 @@ mixed = 0x41 ∷ 0xE2 ∷ 0x82 ∷ 0xAC ∷ 0xF0 ∷ 0x9F ∷ 0x9A ∷ 0x86 ∷ 
 pub record Marked : Type 0 where
   pub empty-checks : checkSays bytes [] ≡ 0 ∷ []
   pub empty-checkpoint : indexOf [] ≡ 0 ∷ 0 ∷ 0 ∷ 0 ∷ []
-  pub euro : points utf8 (0xE2 ∷ 0x82 ∷ 0xAC ∷ []) ≡ 0x20AC ∷ []
-  pub train : points utf8 (0xF0 ∷ 0x9F ∷ 0x9A ∷ 0x86 ∷ []) ≡ 0x1F686 ∷ []
+  pub euro : pointsOf utf8 (0xE2 ∷ 0x82 ∷ 0xAC ∷ []) ≡ 0x20AC ∷ []
+  pub train : pointsOf utf8 (0xF0 ∷ 0x9F ∷ 0x9A ∷ 0x86 ∷ []) ≡ 0x1F686 ∷ []
   pub train-units : converted utf8 utf16 (0xF0 ∷ 0x9F ∷ 0x9A ∷ 0x86 ∷ []) ≡ 0xD83D ∷ 0xDE86 ∷ []
-  pub last-point : points utf8 (0xF4 ∷ 0x8F ∷ 0xBF ∷ 0xBF ∷ []) ≡ 0x10FFFF ∷ []
+  pub last-point : pointsOf utf8 (0xF4 ∷ 0x8F ∷ 0xBF ∷ 0xBF ∷ []) ≡ 0x10FFFF ∷ []
   pub last-units : converted utf8 utf16 (0xF4 ∷ 0x8F ∷ 0xBF ∷ 0xBF ∷ []) ≡ 0xDBFF ∷ 0xDFFF ∷ []
   pub past-the-last : hurt bytes (0xF4 ∷ 0x90 ∷ 0x80 ∷ 0x80 ∷ []) ≡ 0 ∷ 1 ∷ 1 ∷ 1 ∷ 2 ∷ 1 ∷ 3 ∷ 1 ∷ []
   pub four-too-long : hurt bytes (0xF0 ∷ 0x8F ∷ 0xBF ∷ 0xBF ∷ []) ≡ 0 ∷ 1 ∷ 1 ∷ 1 ∷ 2 ∷ 1 ∷ 3 ∷ 1 ∷ []
@@ -46,16 +45,16 @@ pub record Marked : Type 0 where
   pub three-too-long : hurt bytes (0xE0 ∷ 0x9F ∷ 0xBF ∷ []) ≡ 0 ∷ 1 ∷ 1 ∷ 1 ∷ 2 ∷ 1 ∷ []
   pub two-too-long : hurt bytes (0xC0 ∷ 0x80 ∷ []) ≡ 0 ∷ 1 ∷ 1 ∷ 1 ∷ []
   pub stopped : hurt bytes (0xE2 ∷ 0x82 ∷ 0x41 ∷ []) ≡ 0 ∷ 2 ∷ []
-  pub stopped-points : points utf8 (0xE2 ∷ 0x82 ∷ 0x41 ∷ []) ≡ 0xFFFD ∷ 0x41 ∷ []
+  pub stopped-points : pointsOf utf8 (0xE2 ∷ 0x82 ∷ 0x41 ∷ []) ≡ 0xFFFD ∷ 0x41 ∷ []
   pub ended : hurt bytes (0xF0 ∷ 0x9F ∷ 0x9A ∷ []) ≡ 0 ∷ 3 ∷ []
   pub repairs :
       repaired utf8 (0x61 ∷ 0xF1 ∷ 0x80 ∷ 0x80 ∷ 0xE1 ∷ 0x80 ∷ 0xC2 ∷ 0x62 ∷ 0x80 ∷ 0x63 ∷ 0x80 ∷ 0xBF ∷ 0x64 ∷ [])
       ≡ 0x61 ∷ 0xEF ∷ 0xBF ∷ 0xBD ∷ 0xEF ∷ 0xBF ∷ 0xBD ∷ 0xEF ∷ 0xBF ∷ 0xBD ∷ 0x62 ∷ 0xEF ∷ 0xBF ∷ 0xBD ∷ 0x63 ∷ 0xEF ∷ 0xBF ∷ 0xBD ∷ 0xEF ∷ 0xBF ∷ 0xBD ∷ 0x64 ∷ []
   pub repairs-points :
-      points utf8 (0x61 ∷ 0xF1 ∷ 0x80 ∷ 0x80 ∷ 0xE1 ∷ 0x80 ∷ 0xC2 ∷ 0x62 ∷ 0x80 ∷ 0x63 ∷ 0x80 ∷ 0xBF ∷ 0x64 ∷ [])
+      pointsOf utf8 (0x61 ∷ 0xF1 ∷ 0x80 ∷ 0x80 ∷ 0xE1 ∷ 0x80 ∷ 0xC2 ∷ 0x62 ∷ 0x80 ∷ 0x63 ∷ 0x80 ∷ 0xBF ∷ 0x64 ∷ [])
       ≡ 0x61 ∷ 0xFFFD ∷ 0xFFFD ∷ 0xFFFD ∷ 0x62 ∷ 0xFFFD ∷ 0x63 ∷ 0xFFFD ∷ 0xFFFD ∷ 0x64 ∷ []
-  pub unpaired : points utf16 (0xD83D ∷ 0xD83D ∷ 0xDE86 ∷ []) ≡ 0xFFFD ∷ 0x1F686 ∷ []
-  pub swapped : points utf16 (0xDE86 ∷ 0xD83D ∷ []) ≡ 0xFFFD ∷ 0xFFFD ∷ []
+  pub unpaired : pointsOf utf16 (0xD83D ∷ 0xD83D ∷ 0xDE86 ∷ []) ≡ 0xFFFD ∷ 0x1F686 ∷ []
+  pub swapped : pointsOf utf16 (0xDE86 ∷ 0xD83D ∷ []) ≡ 0xFFFD ∷ 0xFFFD ∷ []
   pub mixed-places :
       places bytes ruler mixed
       ≡ place 0 0 0 0 ∷ place 1 1 1 0 ∷ place 4 2 2 0 ∷ place 8 4 3 0 ∷ place 9 5 4 0 ∷ place 10 6 5 1 ∷ place 11 7 6 1 ∷ []

@@ -1,5 +1,4 @@
 -- Two answers of a lookup are compared by what they tell.
--- Assumes nothing.
 use mathlib.Core.Path.{_≡_, refl, sym, ap, _∙_}
 use mathlib.Core.Logic.{_↔_}
 use Prim.Native.Nat.{ℕ}
@@ -9,10 +8,10 @@ use lib.ListN.{getD}
 use lib.Dec.{eqb}
 use borrow.Author.Tests.{eqb-true, eq-eqb}
 use Rattle.theory.proofs.Cases.{both}
-use Rattle.terms.specs.Told.{refusal}
+use Rattle.terms.specs.Told.{toldRefusal}
 use Rattle.terms.specs.declared.Refusal.{Refusal}
 use Rattle.terms.proofs.ToldBack.{backRefusal, refusal-back, told-refusal, no-zero}
-use Rattle.place.specs.Lookup.{counts, placed}
+use Rattle.place.specs.Lookup.{fourCounts, toldPlaced}
 use Rattle.place.specs.declared.Place.{Place}
 use Rattle.place.specs.declared.Placed.{Placed}
 use Rattle.place.specs.declared.Placed.the-variants.{At, Refused}
@@ -24,17 +23,17 @@ use Rattle.index_audit.proofs.ComparedByNumbers.{same-sound, same-refl, same-pl
 pub places-exactly : (p q : Place)
     → (eqb (p .bytes) (q .bytes) && eqb (p .units) (q .units) && eqb (p .points) (q .points) && eqb (p .lines) (q .lines) ≡ true) ↔ (p ≡ q)
 places-exactly p q = (
-  (λ e. told-counts p q (same-sound (counts p) (counts q) (sym (same-places p q) ∙ e))),
-  (λ e. same-places p q ∙ rw e (same-refl (counts q))),
+  (λ e. told-counts p q (same-sound (fourCounts p) (fourCounts q) (sym (same-places p q) ∙ e))),
+  (λ e. same-places p q ∙ rw e (same-refl (fourCounts q))),
 )
 
 abbrev value : Refusal → ℕ → ℕ
-value a i = getD (refusal a) i 0
+value a i = getD (toldRefusal a) i 0
 
 told-values : (a b : Refusal) → value a 0 ≡ value b 0 → value a 1 ≡ value b 1 → value a 2 ≡ value b 2 → a ≡ b
 unfolding backRefusal
 told-values a b e f g =
-    let h : backRefusal (refusal a) ≡ backRefusal (refusal b) = rw (e, f, g) in
+    let h : backRefusal (toldRefusal a) ≡ backRefusal (toldRefusal b) = rw (e, f, g) in
     sym (refusal-back a) ∙ h ∙ refusal-back b
 
 pub refusals-exactly : (a b : Refusal) → (eqb (value a 0) (value b 0) && eqb (value a 1) (value b 1) && eqb (value a 2) (value b 2) ≡ true) ↔ (a ≡ b)
@@ -56,18 +55,18 @@ module _ {a b : Placed} {r : Bool} where
   both-places {p} {q} e f h = (
     (λ t. e ∙ ap At (h .0 t) ∙ sym f),
     (λ t.
-        let told : 0 ∷ counts p ≡ 0 ∷ counts q = ap placed (sym e ∙ t ∙ f) in
+        let told : 0 ∷ fourCounts p ≡ 0 ∷ fourCounts q = ap toldPlaced (sym e ∙ t ∙ f) in
         h .1 (told-counts p q (cc))),
   )
 
   pub both-refusals : {v w : Refusal} → a ≡ Refused v → b ≡ Refused w → (r ≡ true) ↔ (v ≡ w) → (r ≡ true) ↔ (a ≡ b)
   both-refusals {v} {w} e f h = (
     (λ t. e ∙ ap Refused (h .0 t) ∙ sym f),
-    (λ t. h .1 (told-refusal v w (ap placed (sym e ∙ t ∙ f)))),
+    (λ t. h .1 (told-refusal v w (ap toldPlaced (sym e ∙ t ∙ f)))),
   )
 
 apart : {p : Place} {w : Refusal} → At p ≡ Refused w → ⊥
-apart {w = w} e = true≢false (ap (λ (a : Placed). eqb (getD (placed a) 0 0) 0) e ∙ no-zero w)
+apart {w = w} e = true≢false (ap (λ (a : Placed). eqb (getD (toldPlaced a) 0 0) 0) e ∙ no-zero w)
 
 module _ {a b : Placed} {p : Place} {w : Refusal} where
   pub place-refusal : a ≡ At p → b ≡ Refused w → (false ≡ true) ↔ (a ≡ b)
@@ -78,5 +77,5 @@ module _ {a b : Placed} {p : Place} {w : Refusal} where
 
 -- ---- two that tell the same
 
-pub agree-told : {a b : Placed} {r : Bool} {l m : List ℕ} → (r ≡ true) ↔ (a ≡ b) → placed a ≡ l → l ≡ m → placed b ≡ m → r ≡ true
+pub agree-told : {a b : Placed} {r : Bool} {l m : List ℕ} → (r ≡ true) ↔ (a ≡ b) → toldPlaced a ≡ l → l ≡ m → toldPlaced b ≡ m → r ≡ true
 agree-told {a} {b} h e f g = h .1 (told-placed a b (e ∙ f ∙ sym g))

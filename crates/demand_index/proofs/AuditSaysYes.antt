@@ -1,5 +1,4 @@
 -- The audit says yes to what a course of feeds that was finished left.
--- Assumes nothing.
 use mathlib.Core.Path.{_≡_, ap, _∙_}
 use Prim.Native.Nat.{ℕ, _≤_}
 use mathlib.Core.Bool.{true}

@@ -1,5 +1,4 @@
 -- A build in pieces goes call by call: what a feed answers decides where the next piece begins.
--- Assumes nothing.
 use mathlib.Core.Path.{_≡_, refl, sym, ap, _∙_}
 use Prim.Native.Nat.{ℕ, suc, _-_, _≤_, _<_}
 use mathlib.Core.Bool.{Bool, true, false, cond}
@@ -8,17 +7,18 @@ use lib.ListN.{length, getD, take, drop, length-append, List·getD-append, List�
 use lib.Seq.{take-suc, drop-cons, take-all, getD-append-seam}
 use borrow.Author.Tests.{lt-ltb, le-ltb}
 use native.Mathlib.Omega.{arith}
-use Rattle.theory.specs.Course.{Course, begun, called, course}
+use Rattle.theory.specs.Course.{Course, uncalled, called, course}
 use Rattle.theory.proofs.Cases.{split, under}
 use Rattle.terms.specs.Told.{isGranted, ifGranted}
-use Rattle.index_build.specs.State.{freshBuilder, building, buildSays}
+use Rattle.index_build.specs.State.{freshBuilder, toldBuilding, buildSays}
 use Rattle.index_build.specs.declared.state.Builder.{Builder}
 use Rattle.index_build.specs.declared.state.Built as the-built
 use Rattle.index_build.specs.Building.{ended, Feeds, Finishes}
 use Rattle.index_build.specs.Course.{feedOf}
 use Rattle.demand_shared.specs.Cuts.{bring}
 use Rattle.demand_shared.proofs.CutsBetween.{bring-from, bring-end}
-use Rattle.demand_index.specs.Builds.{Cutter, cutter, starting, feedTo, fedTo, stopped, finished, built, Builds}
+use Rattle.demand_index.specs.Builds.{Cutter, cutter, starting, feedTo, fedTo, stopped, finished, built}
+use Rattle.demand_index.specs.Inside.Steps.{Builds}
 
 -- what is read in a list does not depend on what stands for nothing
 pub read-any : (l : List ℕ) (k d e : ℕ) → k < length l → getD l k d ≡ getD l k e
@@ -31,7 +31,7 @@ module _ {b : Builder} {row row′ : List ℕ} {q : the-built.Built} (h : Finish
   either true = record { answer = refl; row-is = refl }
   either false = record { answer = refl; row-is = refl }
 
-  pub finish-builds : Builds (finished b row) row′ (isGranted (building (q .answer)))
+  pub finish-builds : Builds (finished b row) row′ (isGranted (toldBuilding (q .answer)))
   finish-builds = rw (h .answer, h .checkpoints) (either (isGranted (buildSays b 0 (length row))))
 
 -- ---- a feed
@@ -52,7 +52,7 @@ module _ (text : List ℕ) where
   -- is what the call handed back
   feeds-behind : {b : Builder} {row row′ : List ℕ} (from to cut from′ : ℕ) {q : the-built.Built} → to ≡ bring cut from (length text)
       → Feeds b (take (to - from) (drop from text)) row row′ q
-      → from′ ≡ ifGranted (building (q .answer)) to from
+      → from′ ≡ ifGranted (toldBuilding (q .answer)) to from
       → behind (cutter b row from) cut ≡ cutter (q .state) row′ from′
   feeds-behind {b} {row} from to cut from′ e h f =
       let p : List ℕ = take (to - from) (drop from text) in
@@ -98,9 +98,9 @@ module _ (text cuts row₀ : List ℕ) where
       along-to = rw brought (bring-end cut from (length text) (a .inside))
 
       module _ {row′ : List ℕ} {q : the-built.Built} (h : Feeds b (take (to - from) (drop from text)) row row′ q)
-          (from′ : ℕ) (next : from′ ≡ ifGranted (building (q .answer)) to from) where
+          (from′ : ℕ) (next : from′ ≡ ifGranted (toldBuilding (q .answer)) to from) where
         within : from′ ≤ length text
-        within = split (isGranted (building (q .answer))) (λ e. rw (next, e) along-to) (λ e. rw (next, e) (a .inside))
+        within = split (isGranted (toldBuilding (q .answer))) (λ e. rw (next, e) along-to) (λ e. rw (next, e) (a .inside))
 
         pub along-next : length row′ ≡ length row → Along row′ (q .state) from′ (suc k)
         along-next l =
@@ -112,7 +112,7 @@ module _ (text cuts row₀ : List ℕ) where
               upto = omega arith;
               long = l ∙ a .long;
               same = ap (λ (cs : List ℕ). course (feedTo text) (starting row₀) cs .caller) t
-                  ∙ ap (λ (r : Course Cutter). r .caller) (foldl-append (called (feedTo text)) (begun (starting row₀)) (take k ends) (cut ∷ []))
+                  ∙ ap (λ (r : Course Cutter). r .caller) (foldl-append (called (feedTo text)) (uncalled (starting row₀)) (take k ends) (cut ∷ []))
                   ∙ called-behind text r cut
                   ∙ ap (λ (h : Cutter). behind text h cut) (a .same)
                   ∙ feeds-behind text from to cut from′ brought h next;

@@ -1,6 +1,5 @@
 -- What the calls on the way through a text leave is what a course of the builder's feeds leaves; where the index was built that
 -- course has taken the text and was finished, and otherwise the refusal was right.
--- Assumes nothing.
 use mathlib.Core.Path.{_≡_, refl, sym, ap, _∙_}
 use Prim.Native.Nat.{ℕ, _+_, _-_, _≤_}
 use mathlib.Core.Bool.{Bool, true, false, cond, true≢false}
@@ -11,13 +10,13 @@ use lib.Dec.{ltb}
 use borrow.Author.Tests.{lt-ltb, le-ltb, ltb-false}
 use native.Mathlib.Omega.{arith}
 use Rattle.theory.specs.Stream.{join}
-use Rattle.theory.specs.Course.{Course, begun, granted, called, course}
+use Rattle.theory.specs.Course.{Course, uncalled, granted, called, course}
 use Rattle.theory.proofs.AnyCalls.{course-keeps}
 use Rattle.theory.proofs.Cases.{split, under}
 use Rattle.terms.specs.Limits.{limit}
 use Rattle.terms.specs.Told.{isGranted}
 use Rattle.index_checkpoint.specs.Checkpoints.{needed}
-use Rattle.index_build.specs.State.{freshBuilder, building, buildSays}
+use Rattle.index_build.specs.State.{freshBuilder, toldBuilding, buildSays}
 use Rattle.index_build.specs.declared.state.Building.the-variants.{Done}
 use Rattle.index_build.specs.declared.state.Built as the-built
 use Rattle.index_build.specs.Building.{Finishes}
@@ -27,7 +26,8 @@ use Rattle.index_build.proofs.GrantedOrRefused.{says-granted, finish-done}
 use Rattle.index_build.proofs.BuiltAsPlain.{keeps, keeps-granted}
 use Rattle.demand_shared.specs.Cuts.{bring}
 use Rattle.demand_shared.proofs.CutsBetween.{bring-from, bring-end}
-use Rattle.demand_index.specs.Builds.{mayRefuse, Cutter, starting, pieceOf, feedTo, fedTo, Build, stopped, built, Builds}
+use Rattle.demand_index.specs.Inside.Steps.{mayRefuse, Builds}
+use Rattle.demand_index.specs.Builds.{Cutter, starting, pieceOf, feedTo, fedTo, Build, stopped, built}
 
 module _ (text row : List ℕ) where
   -- WHAT EVERY GRANTED CALL KEEPS: a course of the builder's feeds that leaves the same, and has taken the text so far
@@ -49,7 +49,7 @@ module _ (text row : List ℕ) where
       let to : ℕ = bring cut (h .from) (length text) in
       let n : h .from + (to - h .from) ≡ to = omega (arith, bring-from cut (h .from) (length text) (k .inside)) in
       let next : fedAll row (k .pieces ++ p ∷ []) ≡ granted feedOf r p
-      = foldl-append (called feedOf) (begun (calls.starting row)) (k .pieces) (p ∷ [])
+      = foldl-append (called feedOf) (uncalled (calls.starting row)) (k .pieces) (p ∷ [])
       ∙ ap (λ (t : Bool). cond t (granted feedOf r p) r) (ap (λ (c : Caller). feedOf .grants c p) (k .caller) ∙ g) in
       record {
         inside = bring-end cut (h .from) (length text) (k .inside);
@@ -89,7 +89,7 @@ pub record Finished (text row row′ : List ℕ) : Type 0 where
   pub joined : join (fedAll row pieces .pieces) ≡ text
   pub call : the-built.Built
   pub finishes : Finishes (fedAll row pieces .caller .state) (fedAll row pieces .caller .row) row′ call
-  pub grants : isGranted (building (call .answer)) ≡ true
+  pub grants : isGranted (toldBuilding (call .answer)) ≡ true
 
 module _ (text cuts row : List ℕ) where
   abbrev end : Cutter
@@ -133,7 +133,7 @@ module _ (text cuts row : List ℕ) where
         let fits : from + length (pieceOf text (r .caller) (length text)) ≤ length text
         = rw (to, length-take-le (length text - from) (drop from text) left) (omega (arith, k .inside)) in
         let g : feedTo text .grants (r .caller) (length text) ≡ true = fed-grants text row k within room (pieceOf text (r .caller) (length text)) fits in
-        ap (λ (r : Course Cutter). r .caller .from) (foldl-append (called (feedTo text)) (begun (starting row)) cuts (length text ∷ []))
+        ap (λ (r : Course Cutter). r .caller .from) (foldl-append (called (feedTo text)) (uncalled (starting row)) cuts (length text ∷ []))
         ∙ ap (λ (t : Bool). cond t (granted (feedTo text) r (length text)) r .caller .from) g
         ∙ to
 

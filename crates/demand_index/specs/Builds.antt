@@ -1,25 +1,17 @@
 -- An index that is built in pieces: the calls of the builder one after another, by what they promise.
--- Assumes nothing.
-use mathlib.Core.Path.{_≡_}
 use Prim.Native.Nat.{ℕ, _-_}
-use mathlib.Core.Bool.{Bool, true, false, cond, _||_}
+use mathlib.Core.Bool.{Bool, true, false, cond}
 use mathlib.Core.List.{List, [], _∷_, _++_}
 use lib.ListN.{length, take, drop}
 use lib.Dec.{ltb}
 use Rattle.theory.specs.Course.{Calls, course}
-use Rattle.terms.specs.Limits.{limit}
 use Rattle.terms.specs.Told.{ifGranted}
-use Rattle.index_checkpoint.specs.Checkpoints.{needed}
 use Rattle.index_build.specs.State.{buildSays}
 use Rattle.index_build.specs.declared.state.Builder.{Builder}
 use Rattle.index_build.specs.Building.{ended}
 use Rattle.index_build.specs.Course.{Caller, feedOf}
 use Rattle.index_build.specs.Course as calls
 use Rattle.demand_shared.specs.Cuts.{bring}
-
--- the text is over the limit, or the row is too short for its index
-abbrev pub mayRefuse : ℕ → ℕ → Bool
-mayRefuse long room = ltb limit long || ltb room (needed long)
 
 -- what the caller has: the builder's state and the row, and how many bytes of the text were taken
 pub record Cutter : Type 0 where
@@ -68,8 +60,3 @@ abbrev pub built : List ℕ → List ℕ → List ℕ → Build
 built text cuts row =
     let h = fedTo text cuts row in
     cond (ltb (h .from) (length text)) (stopped (h .caller .row)) (finished (h .caller .state) (h .caller .row))
-
--- what is answered and left
-pub record Builds (b : Build) (row′ : List ℕ) (r : Bool) : Type 0 where
-  pub answer : r ≡ b .done
-  pub row-is : row′ ≡ b .row

@@ -5,8 +5,9 @@ use terms::Decoder;
 ghost use mathlib.Core.Path.{_≡_};
 ghost use lib.ListN.{getD};
 ghost use Rattle.terms.specs.Told.{isGranted, ifGranted};
-ghost use Rattle.index_build.specs.State.{building};
-ghost use Rattle.demand_index.specs.Builds.{mayRefuse, finished, built, Builds};
+ghost use Rattle.index_build.specs.State.{toldBuilding};
+ghost use Rattle.demand_index.specs.Inside.Steps.{mayRefuse, Builds};
+ghost use Rattle.demand_index.specs.Builds.{finished, built};
 
 // A build is refused only where the text is over the limit or the row is too short for its index.
 pub(crate) fn may_refuse(long: usize, room: usize) -> bool
@@ -19,7 +20,7 @@ pub(crate) fn may_refuse(long: usize, room: usize) -> bool
 }
 
 fn is_granted(answer: Building) -> bool
-    ensures { λ r. ⌜ r ≡ isGranted (building answer) ⌝ }
+    ensures { λ r. ⌜ r ≡ isGranted (toldBuilding answer) ⌝ }
 {
     match answer {
         Building::Done => true,
@@ -39,7 +40,7 @@ fn cut_at(cuts: &[usize], k: usize, end: usize) -> usize
 
 // Where the next piece begins: behind a piece that was taken.
 fn next_from(answer: Building, from: usize, to: usize) -> usize
-    ensures { λ r. ⌜ r ≡ ifGranted (building answer) to from ⌝ }
+    ensures { λ r. ⌜ r ≡ ifGranted (toldBuilding answer) to from ⌝ }
 {
     match answer {
         Building::Done => to,

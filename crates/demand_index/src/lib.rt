@@ -26,7 +26,9 @@ fn same_places(p: Place, q: Place) -> bool
 fn same_refusals(a: Refusal, b: Refusal) -> bool
     ensures { λ r. ⌜ (r ≡ true) ↔ (a ≡ b) ⌝ }
 {
-    (a.number() == b.number()) & (a.first() == b.first()) & (a.second() == b.second())
+    (a.number() == b.number())
+        & (a.first_value() == b.first_value())
+        & (a.second_value() == b.second_value())
 }
 
 // The same place, or the same refusal.

@@ -1,5 +1,4 @@
 -- The calls on the way through a text, as the definitions say: start, the feed of a piece, finish; and what each has passed.
--- Assumes nothing.
 use mathlib.Core.Path.{_≡_, sym, ap, subst, _∙_}
 use Prim.Native.Nat.{ℕ, _+_, _-_, min, _≤_}
 use mathlib.Core.Bool.{Bool, true, false, cond, true≢false}
@@ -9,10 +8,10 @@ use lib.Seq.{drop-append-le}
 use lib.Dec.{ltb}
 use borrow.Author.Tests.{eq-eqb, ne-eqb, ltb-false}
 use native.Mathlib.Omega.{arith}
-use Rattle.theory.specs.Course.{Course, begun, granted, called}
+use Rattle.theory.specs.Course.{Course, uncalled, granted, called}
 use Rattle.theory.proofs.Cases.{split}
 use Rattle.terms.specs.Limits.{mostRoom, freshOf}
-use Rattle.terms.specs.Told.{written, isGranted, ifGranted}
+use Rattle.terms.specs.Told.{toldWritten, isGranted, ifGranted}
 use Rattle.terms.specs.Writing.{outputOf}
 use Rattle.terms.specs.declared.Decoder.{Decoder}
 use Rattle.terms.specs.declared.Refusal.{Refusal}
@@ -22,33 +21,34 @@ use Rattle.terms.proofs.WalkBySegments.{part-is}
 use Rattle.terms.proofs.WalkWrites.{lent, back, back-is}
 use Rattle.utf8_pending.proofs.HeldInPlaces.{take-min}
 use Rattle.decoder.specs.State.{fed, ended, closed}
-use Rattle.decoder.specs.Feeding.{begun as begins, total, Starts, Feeds, finishSays, Finishes}
-use Rattle.decoder.specs.declared.Begun.the-variants as the-begun
+use Rattle.decoder.specs.Feeding.{toldOpening as begins, toldTotal, Starts, Feeds, finishSays, Finishes}
+use Rattle.decoder.specs.declared.Opening.the-variants as the-opening
 use Rattle.decoder.specs.declared.Total.the-variants as the-total
 use Rattle.decoder.specs.declared.Started.{Started}
 use Rattle.decoder.specs.declared.Fed.{Fed}
 use Rattle.decoder.specs.declared.Finished.{Finished}
 use Rattle.decoder.proofs.AnyCutting.{FeedGrants, feed-grants, finish-grants}
 use Rattle.demand_shared.specs.Cuts.{bring}
-use Rattle.demand_pieces.specs.Feeds.{Held, held, Call, call, endOf, pieceOf, saysOf, feedOf, fedOne, Given, given, nothing, finished, ran, through}
+use Rattle.demand_pieces.specs.Feeds.{Held, held, Call, call, endOf, pieceOf, saysOf, feedOf, Given, given, nothing, finished, ran, through}
+use Rattle.demand_pieces.specs.Inside.Feeding.{fedOne}
 use Rattle.demand_pieces.specs.declared.feeds.Gone.{Gone}
 use Rattle.demand_pieces.specs.declared.feeds.Found.{Found}
 
 -- ---- start
 
 module _ (room : ℕ) (r : Started) (s : Starts room r) where
-  start-ready : r .answer ≡ the-begun.Ready → (ltb mostRoom room ≡ false) × (r .state ≡ freshOf room)
+  start-ready : r .answer ≡ the-opening.Ready → (ltb mostRoom room ≡ false) × (r .state ≡ freshOf room)
   start-ready e = split (ltb mostRoom room)
       (λ t. let q : 0 ∷ [] ≡ 7 ∷ [] = rw t at (ap begins (sym e) ∙ s .answer) in let z : _≡_ {A = ℕ} 0 7 = cc in absurd (omega arith))
       (λ t. (t, s .state ∙ rw t))
 
-  start-refused : (q : Refusal) → r .answer ≡ the-begun.Refused q → ltb mostRoom room ≡ true
+  start-refused : (q : Refusal) → r .answer ≡ the-opening.Refused q → ltb mostRoom room ≡ true
   start-refused q e = split (ltb mostRoom room)
       (λ t. t)
       (λ t. absurd (true≢false (ap isGranted (rw t at (sym (s .answer) ∙ ap begins e)) ∙ no-zero q)))
 
   -- the state that a start gives is the fresh one, of a room that is not over the most
-  pub ready-fresh : r .answer ≡ the-begun.Ready → (r .state ≡ freshOf (r .state .room)) × (r .state .room ≤ mostRoom)
+  pub ready-fresh : r .answer ≡ the-opening.Ready → (r .state ≡ freshOf (r .state .room)) × (r .state .room ≤ mostRoom)
   ready-fresh e =
       let t = start-ready e in
       let n : r .state .room ≡ room = ap (λ (d : Decoder). d .room) (t .1) in
@@ -56,13 +56,13 @@ module _ (room : ℕ) (r : Started) (s : Starts room r) where
 
   -- and then what it says of the feeds
   module _ (text : List ℕ) (calls : List Call) (out list : List ℕ) (v : Given) where
-    pub through-ready : r .answer ≡ the-begun.Ready → v ≡ ran (r .state .room) text calls out list → v ≡ through room text calls out list
+    pub through-ready : r .answer ≡ the-opening.Ready → v ≡ ran (r .state .room) text calls out list → v ≡ through room text calls out list
     through-ready e h =
         let t = start-ready e in
         h ∙ ap (λ (d : Decoder). ran (d .room) text calls out list) (t .1)
         ∙ sym (ap (λ (b : Bool). cond b (given (nothing true) out list) (ran room text calls out list)) (t .0))
 
-    pub through-refused : (q : Refusal) → r .answer ≡ the-begun.Refused q → v ≡ given (nothing true) out list → v ≡ through room text calls out list
+    pub through-refused : (q : Refusal) → r .answer ≡ the-opening.Refused q → v ≡ given (nothing true) out list → v ≡ through room text calls out list
     through-refused q e h =
         h ∙ sym (ap (λ (b : Bool). cond b (given (nothing true) out list) (ran room text calls out list)) (start-refused q e))
 
@@ -78,10 +78,10 @@ put-back form rest k h =
 
 module _ (text : List ℕ) where
   pub one-granted : (h : Held) (c : Call) → isGranted (saysOf text h c) ≡ true → fedOne text h c ≡ feedOf text .goes h c
-  one-granted h c e = ap (λ (b : Bool). cond b (granted (feedOf text) (begun h) c) (begun h) .caller) e
+  one-granted h c e = ap (λ (b : Bool). cond b (granted (feedOf text) (uncalled h) c) (uncalled h) .caller) e
 
   pub one-refused : (h : Held) (c : Call) → isGranted (saysOf text h c) ≡ false → fedOne text h c ≡ h
-  one-refused h c e = ap (λ (b : Bool). cond b (granted (feedOf text) (begun h) c) (begun h) .caller) e
+  one-refused h c e = ap (λ (b : Bool). cond b (granted (feedOf text) (uncalled h) c) (uncalled h) .caller) e
 
   -- the caller of a course after one call more
   pub called-caller : (r : Course Held) (c : Call) → called (feedOf text) r c .caller ≡ fedOne text (r .caller) c
@@ -123,7 +123,7 @@ module _ (text : List ℕ) (g : Gone) (cut places : ℕ) (out list : List ℕ) w
 
       module _ (m : ℕ) (a : q .answer ≡ the-written.Count m) where
         says : saysOf text before c ≡ 0 ∷ m ∷ []
-        says = sym (feeds .answer) ∙ ap written a
+        says = sym (feeds .answer) ∙ ap toldWritten a
 
         grants : FeedGrants (g .state) (pieceOf text before c) (take places rest) list
         grants = feed-grants (g .state) (pieceOf text before c) (take places rest) list (ap isGranted says)
@@ -159,7 +159,7 @@ module _ (text : List ℕ) (g : Gone) (cut places : ℕ) (out list : List ℕ) w
           → held (record { state = q .state; from = g .from; done = g .done }) (take (g .done) out ++ (out₁ ++ drop k rest)) list₁
           ≡ fedOne text before c
       piece-refused x a =
-          let no : isGranted (saysOf text before c) ≡ false = ap isGranted (sym (feeds .answer) ∙ ap written a) ∙ no-zero x in
+          let no : isGranted (saysOf text before c) ≡ false = ap isGranted (sym (feeds .answer) ∙ ap toldWritten a) ∙ no-zero x in
           let state-is : q .state ≡ g .state = feeds .state ∙ ap (λ (b : Bool). cond b after (g .state)) no in
           let list-is : list₁ ≡ list = feeds .entries ∙ ap (λ (b : Bool). cond b (fed (g .state) (pieceOf text before c) list .kept .list) list) no in
           let out-is : out₁ ≡ take k rest
@@ -200,19 +200,19 @@ module _ (text : List ℕ) (g : Gone) (out list : List ℕ) where
         → given (record { granted = true; refuses = true; written = g .done + n; whole = w; damaged = d; count = k }) (back out (g .done) out₁) list₁
         ≡ finished text (held g out list)
     end-granted n w d k a =
-        let says : finishTells ≡ 0 ∷ n ∷ w ∷ d ∷ k ∷ [] = sym (ends .answer) ∙ ap total a in
+        let says : finishTells ≡ 0 ∷ n ∷ w ∷ d ∷ k ∷ [] = sym (ends .answer) ∙ ap toldTotal a in
         end-gave (record { granted = true; refuses = true; written = g .done + n; whole = w; damaged = d; count = k }) (sym (ap gave says))
 
     pub end-refused : (y : Refusal) → q .answer ≡ the-total.Refused y → (x : Found) → x ≡ nothing true
         → given x (back out (g .done) out₁) list₁ ≡ finished text (held g out list)
     end-refused y a x e =
-        let no : isGranted finishTells ≡ false = ap isGranted (sym (ends .answer) ∙ ap total a) ∙ no-zero y in
+        let no : isGranted finishTells ≡ false = ap isGranted (sym (ends .answer) ∙ ap toldTotal a) ∙ no-zero y in
         end-gave x (e ∙ rw no)
 
     -- what it wrote lies within the output
     pub end-fits : (n w d k : ℕ) → q .answer ≡ the-total.Given n w d k → g .done ≤ length out → g .done + n ≤ length out
     end-fits n w d k a h =
-        let says : finishTells ≡ 0 ∷ n ∷ w ∷ d ∷ k ∷ [] = sym (ends .answer) ∙ ap total a in
+        let says : finishTells ≡ 0 ∷ n ∷ w ∷ d ∷ k ∷ [] = sym (ends .answer) ∙ ap toldTotal a in
         let e = finish-grants (g .state) (drop (g .done) out) list (ap isGranted says) in
         let m : n ≡ length (ended (g .state) list .out) = ap (λ (l : List ℕ). getD l 1 0) (sym says ∙ e .says) in
         omega (arith, m, e .fits, length-drop (g .done) out)

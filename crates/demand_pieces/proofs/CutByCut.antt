@@ -1,5 +1,4 @@
 -- The feeds of a text's pieces, each tried twice, go the course of such calls, cut by cut.
--- Assumes nothing.
 use mathlib.Core.Path.{_≡_, sym, ap, subst, _∙_}
 use Prim.Native.Nat.{ℕ, _+_, _≤_, _<_}
 use native.Mathlib.Numerals.{add-one}
@@ -17,7 +16,9 @@ use Rattle.terms.specs.Limits.{limit, mostRoom, freshOf}
 use Rattle.terms.specs.declared.Decoder.{Decoder}
 use Rattle.utf8.specs.Scalar.{utf8}
 use Rattle.decoder.specs.Tests.{sound}
-use Rattle.demand_pieces.specs.Feeds.{Held, held, Call, call, feedOf, fedOne, fedTwice, starting, Given, through, twice, pieces, enough}
+use Rattle.demand_pieces.specs.Feeds.{Held, held, Call, call, feedOf, starting, Given, through, twice, pieces}
+use Rattle.demand_pieces.specs.Inside.Feeding.{fedOne, fedTwice}
+use Rattle.demand_pieces.specs.Inside.Comparing.{enough}
 use Rattle.demand_pieces.proofs.GrantedExactly.{granted-exactly}
 use Rattle.demand_pieces.proofs.CuttingDoesNotMatter.{Bounded, Keeps, behind, behind-one, keeps, keeps-holds}
 

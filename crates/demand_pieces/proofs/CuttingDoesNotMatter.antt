@@ -1,6 +1,5 @@
 -- THE CUTTING DOES NOT MATTER: what the feeds on the way through a text leave is what a course of the decoder's calls leaves; so
 -- where finish is granted, it has given the repaired form, the totals and the entries of the text.
--- Assumes nothing.
 use mathlib.Core.Path.{_≡_, refl, sym, ap, ap₂, subst, _∙_}
 use Prim.Native.Nat.{ℕ, _+_, _*_, _-_, _≤_}
 use mathlib.Core.Bool.{Bool, true, false, cond, true≢false}
@@ -33,7 +32,8 @@ use Rattle.decoder.specs.declared.Finished.{Finished}
 use Rattle.decoder.specs.declared.Total.the-variants as the-total
 use Rattle.decoder.proofs.AnyCutting.{FeedGrants, feed-grants, FinishGrants, finish-grants, course-holds, fed-as-whole}
 use Rattle.demand_shared.proofs.CutsBetween.{bring-from, bring-end}
-use Rattle.demand_pieces.specs.Feeds.{Held, held, Call, endOf, pieceOf, restOf, saysOf, feedOf, fedOne, Given, given, finished, ran, through}
+use Rattle.demand_pieces.specs.Feeds.{Held, held, Call, endOf, pieceOf, restOf, saysOf, feedOf, Given, given, finished, ran, through}
+use Rattle.demand_pieces.specs.Inside.Feeding.{fedOne}
 use Rattle.demand_pieces.specs.Feeds as specs
 use Rattle.demand_pieces.specs.declared.feeds.Gone.{Gone}
 use Rattle.demand_pieces.proofs.CallsOnTheWay.{called-caller, one-granted, one-refused}
@@ -160,7 +160,7 @@ module _ (room : ℕ) (row text out : List ℕ) where
       let x : calling.Call = record { piece = piece; out = part text h c } in
       let yes : calling.feedOf .grants (r .caller) x ≡ true = rw (k .caller-is) e in
       let more : fedAll room row (k .calls ++ x ∷ []) ≡ granted calling.feedOf r x
-      = foldl-append (called calling.feedOf) (course.begun (starting room row)) (k .calls) (x ∷ [])
+      = foldl-append (called calling.feedOf) (course.uncalled (starting room row)) (k .calls) (x ∷ [])
       ∙ ap (λ (a : Bool). cond a (granted calling.feedOf r x) r) yes in
       let says = grants text h c e b .says in
       let wrote-is : wrote (saysOf text h c) (form text h c) (part text h c) ≡ form text h c
@@ -193,7 +193,7 @@ module _ (room : ℕ) (row text out : List ℕ) where
 
   pub behind-one : (calls : List Call) (c : Call) → behind (calls ++ c ∷ []) ≡ fedOne text (behind calls) c
   behind-one calls c =
-      ap (λ (r : Course Held). r .caller) (foldl-append (called (feedOf text)) (course.begun (specs.starting room out row)) calls (c ∷ []))
+      ap (λ (r : Course Held). r .caller) (foldl-append (called (feedOf text)) (course.uncalled (specs.starting room out row)) calls (c ∷ []))
       ∙ called-caller text (course (feedOf text) (specs.starting room out row) calls) c
 
   module _ (roomy : room ≤ mostRoom) (so-far : List ℕ) (h : Held) (k : Keeps so-far h) where

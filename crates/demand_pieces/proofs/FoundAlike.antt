@@ -1,5 +1,4 @@
 -- What both ways have found is the same: the totals, and the stored entries; and a refusal is due.
--- Assumes nothing.
 use mathlib.Core.Path.{_≡_, refl, sym, ap, _∙_}
 use Prim.Native.Nat.{ℕ, _*_, min, _≤_}
 use mathlib.Core.Bool.{Bool, true, false, not, Bool·beq, true≢false}
@@ -16,9 +15,9 @@ use Rattle.theory.proofs.TalliesAdd.{entries-length}
 use Rattle.terms.specs.Limits.{entryWidth}
 use Rattle.utf8.specs.Bytes.{bytes}
 use Rattle.decoder.specs.State.{numbers}
-use Rattle.demand_pieces.specs.Feeds.{Given, enough}
+use Rattle.demand_pieces.specs.Feeds.{Given}
+use Rattle.demand_pieces.specs.Inside.Comparing.{enough, sameTotals}
 use Rattle.demand_pieces.proofs.CuttingDoesNotMatter.{Ran}
-use Rattle.demand_pieces.specs.Pieces.{sameTotals}
 
 module _ (room : ℕ) (row text out : List ℕ) (v : Given) (r : Ran room row text out v) where
   abbrev stored : ℕ

@@ -1,6 +1,5 @@
 -- Exactly where a way through a text within the limit is granted: where there is room for a start, for the entries in the list, and
 -- for the repaired form in the output; so a refusal is never without a cause.
--- Assumes nothing.
 use mathlib.Core.Path.{_≡_, sym, ap, _∙_}
 use Prim.Native.Nat.{ℕ, _+_, _*_, _-_, _≤_}
 use mathlib.Core.Bool.{true, _&&_, true≢false}
@@ -30,7 +29,8 @@ use Rattle.decoder.specs.Feeding.{feedSays}
 use Rattle.decoder.specs.Course.{Holds}
 use Rattle.decoder.proofs.AnyCutting.{FinishGrants}
 use Rattle.demand_shared.specs.Cuts.{bring}
-use Rattle.demand_pieces.specs.Feeds.{Held, Call, endOf, pieceOf, restOf, saysOf, feedOf, Given, ran, through, whole, enough}
+use Rattle.demand_pieces.specs.Feeds.{Held, Call, endOf, pieceOf, restOf, saysOf, feedOf, Given, ran, through, whole}
+use Rattle.demand_pieces.specs.Inside.Comparing.{enough}
 use Rattle.demand_pieces.proofs.CallsOnTheWay.{one-granted}
 use Rattle.demand_pieces.proofs.CuttingDoesNotMatter.{callerOf, Keeps, behind, behind-one, keeps, keeps-holds, list-long, ended-so, through-ran}
 

@@ -1,5 +1,4 @@
 -- What the demand promises, it promises once: two answers, with what they left in the buffers, are equal.
--- Assumes nothing.
 use mathlib.Core.Path.{_≡_, sym, _∙_}
 use mathlib.Core.Bool.{Bool}
 use Rattle.demand_pieces.specs.Pieces.{Lent, Yes}

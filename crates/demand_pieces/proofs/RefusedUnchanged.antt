@@ -1,5 +1,4 @@
 -- Calls that must be refused: the number that is due to each of them, and that they change nothing.
--- Assumes nothing.
 use mathlib.Core.Path.{_≡_, sym, ap, _∙_}
 use Prim.Native.Nat.{ℕ, _+_, _*_, _-_, _≤_, _<_}
 use mathlib.Core.Bool.{Bool, true, false, cond}
@@ -15,7 +14,7 @@ use Rattle.theory.proofs.Cases.{split}
 use Rattle.theory.proofs.Divisions.{parts-size}
 use Rattle.terms.specs.Form.{mend}
 use Rattle.terms.specs.Limits.{limit, mostRoom, entryWidth, mostPending}
-use Rattle.terms.specs.Told.{refusal, isGranted}
+use Rattle.terms.specs.Told.{toldRefusal, isGranted}
 use Rattle.terms.specs.Told as told
 use Rattle.terms.specs.Writing.{roomed}
 use Rattle.terms.specs.declared.Decoder.{Decoder}
@@ -31,8 +30,8 @@ use Rattle.decoder.proofs.ChecksInOrder.{admitted-over, admitted-list, admitted
 use Rattle.decoder.specs.State.{fed}
 use Rattle.decoder.specs.Feeding.{feedSays, Feeds}
 use Rattle.decoder.specs.declared.Fed.{Fed}
-use Rattle.demand_pieces.specs.Trying.{numberOf, dueTo, Refuses}
-use Rattle.demand_pieces.specs.Trying as trying
+use Rattle.demand_pieces.specs.Inside.Trying.{numberOf, dueTo, Refuses}
+use Rattle.demand_pieces.specs.Inside.Trying as trying
 use Rattle.demand_pieces.proofs.GrantedExactly.{fed-form}
 
 abbrev head : List ℕ → ℕ
@@ -44,15 +43,15 @@ module _ {d : Decoder} {piece out list out₁ list₁ : List ℕ} {q : Fed} (f :
     (n : ℕ) (due : head (feedSays d piece out list) ≡ n) (some : 0 < n) where
   pub not-granted : (m : ℕ) → q .answer ≡ the-written.Count m → ⊥
   not-granted m a =
-      let z : 0 ≡ n = ap head (sym (ap told.written a) ∙ f .answer) ∙ due in
+      let z : 0 ≡ n = ap head (sym (ap told.toldWritten a) ∙ f .answer) ∙ due in
       omega (arith, z, some)
 
-  pub refused-so : (why : Refusal) → q .answer ≡ the-written.Refused why → (k : ℕ) → k ≡ getD (refusal why) 0 0 → Refuses out list out₁ list₁ (eqb k n)
+  pub refused-so : (why : Refusal) → q .answer ≡ the-written.Refused why → (k : ℕ) → k ≡ getD (toldRefusal why) 0 0 → Refuses out list out₁ list₁ (eqb k n)
   refused-so why a k e =
       let no : isGranted (feedSays d piece out list) ≡ false
       = ne-eqb (head (feedSays d piece out list)) 0 (λ z. let y : n ≡ 0 = sym due ∙ z in omega (arith, y, some)) in
       record {
-        yes = eq-eqb k n (e ∙ ap head (sym (ap told.written a) ∙ f .answer) ∙ due);
+        yes = eq-eqb k n (e ∙ ap head (sym (ap told.toldWritten a) ∙ f .answer) ∙ due);
         output = f .output
             ∙ ap (λ (b : Bool). cond b (fed d piece list .kept .out ++ drop (length (fed d piece list .kept .out)) out) out) no;
         entries = f .entries ∙ ap (λ (b : Bool). cond b (fed d piece list .kept .list) list) no;

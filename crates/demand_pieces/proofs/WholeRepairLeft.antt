@@ -1,5 +1,4 @@
 -- The whole repair: what it wrote, that its refusal is due, and what is left in the lent buffers.
--- Assumes nothing.
 use mathlib.Core.Path.{_≡_, sym, ap, _∙_}
 use Prim.Native.Nat.{ℕ, _≤_}
 use mathlib.Core.Bool.{Bool, true, false, cond, true≢false}
@@ -10,7 +9,7 @@ use lib.Dec.{ltb}
 use Rattle.theory.proofs.Cases.{split}
 use Rattle.terms.specs.Form.{repaired}
 use Rattle.terms.specs.Limits.{limit}
-use Rattle.terms.specs.Told.{refusal, written, isGranted}
+use Rattle.terms.specs.Told.{toldRefusal, toldWritten, isGranted}
 use Rattle.terms.specs.Writing.{roomed, outputOf, Writes, repairSays}
 use Rattle.terms.specs.declared.Refusal.{Refusal}
 use Rattle.terms.specs.declared.Written.{Written}
@@ -19,7 +18,8 @@ use Rattle.terms.proofs.AnswersWritten.{repair-count}
 use Rattle.terms.proofs.ConvertsBack.{limited-granted}
 use Rattle.terms.proofs.ToldBack.{no-zero}
 use Rattle.utf8.specs.Scalar.{utf8}
-use Rattle.demand_pieces.specs.Pieces.{due, Lent, lent, bothFed, leaves}
+use Rattle.demand_pieces.specs.Inside.Comparing.{due}
+use Rattle.demand_pieces.specs.Pieces.{Lent, lent, bothFed, leaves}
 
 module _ (text whole : List ℕ) {whole′ : List ℕ} {r : Written}
     (w : Writes (repairSays (length whole) text (repaired utf8 text)) (repaired utf8 text) whole whole′ r) where
@@ -32,15 +32,15 @@ module _ (text whole : List ℕ) {whole′ : List ℕ} {r : Written}
   pub repair-wrote : (n : ℕ) → r ≡ the-written.Count n → take n whole′ ≡ form
   repair-wrote n e =
       let k = repair-count text form whole whole′ r w n e in
-      ap (take n) (w .output ∙ ap (λ (l : List ℕ). outputOf l form whole) (sym (w .answer) ∙ ap written e))
+      ap (take n) (w .output ∙ ap (λ (l : List ℕ). outputOf l form whole) (sym (w .answer) ∙ ap toldWritten e))
       ∙ take-at form (drop (length form) whole) n (sym (k .0))
 
   pub repair-within : (n : ℕ) → r ≡ the-written.Count n → length text ≤ limit
-  repair-within n e = limited-granted text (roomed (length whole) form) (sym (w .answer) ∙ ap written e) .0
+  repair-within n e = limited-granted text (roomed (length whole) form) (sym (w .answer) ∙ ap toldWritten e) .0
 
-  pub repair-due : (why : Refusal) → r ≡ the-written.Refused why → due (refusal why) (length text) (length whole) ≡ true
+  pub repair-due : (why : Refusal) → r ≡ the-written.Refused why → due (toldRefusal why) (length text) (length whole) ≡ true
   repair-due why e =
-      let told : refusal why ≡ says = ap written (sym e) ∙ w .answer in
+      let told : toldRefusal why ≡ says = ap toldWritten (sym e) ∙ w .answer in
       let of : List ℕ → Bool = λ l. due l (length text) (length whole) in
       split (ltb limit (length text))
       (λ t. let over : says ≡ 2 ∷ [] = rw t in ap of (told ∙ over) ∙ t)
@@ -64,7 +64,7 @@ module _ (room : ℕ) (text cuts : List ℕ) (scant : ℕ) (whole once once-list
       → lent part o ol p pl ≡ bothFed room text cuts scant (lent part once once-list parts parts-list)
       → lent whole′ o ol p pl ≡ leaves room text cuts scant (lent whole once once-list parts parts-list)
   leaves-granted n e h =
-      let yes : isGranted tells ≡ true = ap isGranted (sym (w .answer) ∙ ap written e) in
+      let yes : isGranted tells ≡ true = ap isGranted (sym (w .answer) ∙ ap toldWritten e) in
       ap (λ (l : Lent). lent whole′ (l .once) (l .once-list) (l .parts) (l .parts-list)) h
       ∙ ap (λ (x : List ℕ). bothFed room text cuts scant (lent x once once-list parts parts-list)) (w .output)
       ∙ sym (ap left-of yes)
@@ -72,7 +72,7 @@ module _ (room : ℕ) (text cuts : List ℕ) (scant : ℕ) (whole once once-list
   pub leaves-refused : (q : Refusal) → r ≡ the-written.Refused q
       → lent whole′ once once-list parts parts-list ≡ leaves room text cuts scant (lent whole once once-list parts parts-list)
   leaves-refused q e =
-      let no : isGranted tells ≡ false = ap isGranted (sym (w .answer) ∙ ap written e) ∙ no-zero q in
+      let no : isGranted tells ≡ false = ap isGranted (sym (w .answer) ∙ ap toldWritten e) ∙ no-zero q in
       let same : whole′ ≡ whole
       = w .output ∙ ap (λ (b : Bool). cond b (repaired utf8 text ++ drop (length (repaired utf8 text)) whole) whole) no in
       ap (λ (x : List ℕ). lent x once once-list parts parts-list) same ∙ sym (ap left-of no)

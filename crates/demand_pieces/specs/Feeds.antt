@@ -1,14 +1,13 @@
 -- A text that is fed in pieces and finished: the calls one after another, by what they promise. A refused feed is not counted, and
 -- its piece may be tried again.
--- Assumes nothing.
-use Prim.Native.Nat.{ℕ, _+_, _-_, _*_}
-use mathlib.Core.Bool.{Bool, true, false, cond, _&&_}
+use Prim.Native.Nat.{ℕ, _+_, _-_}
+use mathlib.Core.Bool.{Bool, true, false, cond}
 use mathlib.Core.List.{List, [], _∷_, _++_}
 use lib.ListN.{length, getD, take, drop}
-use lib.Dec.{leb, ltb, eqb}
-use Rattle.theory.specs.Course.{Calls, begun, called, course}
+use lib.Dec.{ltb, eqb}
+use Rattle.theory.specs.Course.{Calls, course}
 use Rattle.theory.specs.Tally.{written}
-use Rattle.terms.specs.Limits.{mostRoom, entryWidth, freshOf}
+use Rattle.terms.specs.Limits.{mostRoom, freshOf}
 use Rattle.terms.specs.Told.{isGranted, ifGranted}
 use Rattle.terms.specs.Writing.{outputOf}
 use Rattle.decoder.specs.State.{fed, ended, closed}
@@ -69,13 +68,6 @@ module _ (text : List ℕ) where
         (s .kept .list);
   }
 
-  abbrev pub fedOne : Held → Call → Held
-  fedOne h c = called feedOf (begun h) c .caller
-
-  -- the piece that ends at a cut is tried twice: in so many places only, and in all
-  abbrev pub fedTwice : Held → ℕ → ℕ → Held
-  fedTwice h cut scant = fedOne (fedOne h (call cut scant)) (call cut (length (h .out)))
-
 -- what is found at the end, and the lent output and list
 pub record Given : Type 0 where
   pub found : Found
@@ -129,7 +121,3 @@ twice scant all cut = call cut scant ∷ call cut all ∷ []
 
 abbrev pub pieces : List ℕ → List ℕ → ℕ → List ℕ → List Call
 pieces text cuts scant out = written (twice scant (length out)) (cuts ++ length text ∷ [])
-
--- THERE IS ROOM: for a start, for the entries in a list of so many numbers, and for a form of so many places in an output
-abbrev pub enough : ℕ → ℕ → ℕ → ℕ → Bool
-enough room row form places = leb room mostRoom && leb (entryWidth * room) row && leb form places

@@ -1,25 +1,14 @@
 -- One feed of a text and the feeds of its pieces, in buffers of their own, beside the whole repair.
--- Assumes nothing.
 use mathlib.Core.Path.{_≡_}
 use Prim.Native.Nat.{ℕ}
-use mathlib.Core.Bool.{Bool, true, cond, _&&_}
+use mathlib.Core.Bool.{Bool, true}
 use mathlib.Core.List.{List, [], _∷_}
-use lib.ListN.{length, getD}
-use lib.Dec.{ltb, eqb}
+use lib.ListN.{length}
 use Rattle.terms.specs.Form.{repaired}
-use Rattle.terms.specs.Limits.{limit}
 use Rattle.terms.specs.Told.{ifGranted}
 use Rattle.terms.specs.Writing.{outputOf, repairSays}
 use Rattle.utf8.specs.Scalar.{utf8}
 use Rattle.demand_pieces.specs.Feeds.{through, whole, pieces}
-use Rattle.demand_pieces.specs.declared.feeds.Found.{Found}
-
--- the whole repair's refusal is due: 2 where the text is over the limit, 3 where there are fewer places than it says are needed
-abbrev pub due : List ℕ → ℕ → ℕ → Bool
-due says size places = cond (eqb (getD says 0 0) 2) (ltb limit size) (eqb (getD says 0 0) 3 && ltb places (getD says 1 0))
-
-abbrev pub sameTotals : Found → Found → Bool
-sameTotals a b = eqb (a .whole) (b .whole) && (eqb (a .damaged) (b .damaged) && eqb (a .count) (b .count))
 
 pub record Lent : Type 0 where
   pub whole : List ℕ

@@ -1,6 +1,6 @@
 // A text that is fed and finished, at once or in pieces: start, the feeds one after another, finish. A refused feed is not
 // counted, and its piece is tried again.
-use decoder::Begun;
+use decoder::Opening;
 use decoder::Total;
 use terms::Decoder;
 use terms::Written;
@@ -12,7 +12,8 @@ ghost use lib.ListN.{length};
 ghost use Rattle.terms.specs.Limits.{mostRoom, freshOf};
 ghost use Rattle.decoder.specs.Tests.{sound};
 ghost use Rattle.demand_pieces.specs.Feeds as specs;
-ghost use Rattle.demand_pieces.specs.Trying as tries;
+ghost use Rattle.demand_pieces.specs.Inside.Feeding.{fedOne, fedTwice};
+ghost use Rattle.demand_pieces.specs.Inside.Trying as tries;
 
 // So far: the decoder's state, where the next piece begins, and how many places are written.
 pub(crate) struct Gone {
@@ -43,7 +44,7 @@ fn feed_piece(
 ) -> Gone
     requires { ⌜ (gone .from ≤ length (now text)) × (gone .done ≤ length (now out)) ⌝ }
     ensures { λ r. ⌜ specs.held r (now (out .exit)) (now (list .exit))
-        ≡ specs.fedOne (now (text .entry)) (specs.held gone (now (out .entry)) (now (list .entry))) (specs.call cut places) ⌝ }
+        ≡ fedOne (now (text .entry)) (specs.held gone (now (out .entry)) (now (list .entry))) (specs.call cut places) ⌝ }
 {
     let from = gone.from;
     let done = gone.done;
@@ -73,7 +74,7 @@ fn feed_twice(
 ) -> Gone
     requires { ⌜ (gone .from ≤ length (now text)) × (gone .done ≤ length (now out)) ⌝ }
     ensures { λ r. ⌜ specs.held r (now (out .exit)) (now (list .exit))
-        ≡ specs.fedTwice (now (text .entry)) (specs.held gone (now (out .entry)) (now (list .entry))) cut scant ⌝ }
+        ≡ fedTwice (now (text .entry)) (specs.held gone (now (out .entry)) (now (list .entry))) cut scant ⌝ }
 {
     let all = out.len();
     let once = feed_piece(gone, text, cut, scant, out, list);
@@ -295,8 +296,8 @@ pub(crate) fn feed_once(text: &[u8], room: usize, out: &mut [u8], list: &mut [u3
     let state = started.state;
     let answer = started.answer;
     match answer {
-        Begun::Ready => run_once(state, text, out, list),
-        Begun::Refused(_) => nothing(true),
+        Opening::Ready => run_once(state, text, out, list),
+        Opening::Refused(_) => nothing(true),
     }
 }
 
@@ -319,7 +320,7 @@ pub(crate) fn feed_pieces(
     let state = started.state;
     let answer = started.answer;
     match answer {
-        Begun::Ready => run_pieces(state, text, cuts, scant, trying, out, list),
-        Begun::Refused(_) => nothing(true),
+        Opening::Ready => run_pieces(state, text, cuts, scant, trying, out, list),
+        Opening::Refused(_) => nothing(true),
     }
 }

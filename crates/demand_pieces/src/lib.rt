@@ -9,17 +9,17 @@ ghost use mathlib.Core.Bool.{_&&_};
 ghost use lib.ListN.{length};
 ghost use Rattle.terms.specs.Form.{repaired};
 ghost use Rattle.terms.specs.Limits.{limit};
-ghost use Rattle.terms.specs.Told.{refusal};
+ghost use Rattle.terms.specs.Told.{toldRefusal};
 ghost use Rattle.utf8.specs.Scalar.{utf8};
 ghost use Rattle.demand_shared.specs.Equal.{equal};
-ghost use Rattle.demand_pieces.specs.Feeds.{enough};
+ghost use Rattle.demand_pieces.specs.Inside.Comparing.{due, sameTotals, enough};
 ghost use Rattle.demand_pieces.specs.Pieces as specs;
 
 mod feeds;
 
 // Was the whole repair's refusal due: is the text over the limit, or are there fewer places than it says are needed?
 fn is_due(why: Refusal, size: usize, places: usize) -> bool
-    ensures { λ r. ⌜ r ≡ specs.due (refusal why) size places ⌝ }
+    ensures { λ r. ⌜ r ≡ due (toldRefusal why) size places ⌝ }
 {
     if why.number() == 2 {
         return Decoder::LIMIT < size;
@@ -27,7 +27,7 @@ fn is_due(why: Refusal, size: usize, places: usize) -> bool
     if why.number() != 3 {
         return false;
     }
-    places < why.first()
+    places < why.first_value()
 }
 
 // Is there room for a start, for the entries in the list, and for the form in the output?
@@ -44,7 +44,7 @@ fn is_enough(room: usize, row: usize, form: usize, places: usize) -> bool
 }
 
 fn same_totals(a: Found, b: Found) -> bool
-    ensures { λ r. ⌜ r ≡ specs.sameTotals a b ⌝ }
+    ensures { λ r. ⌜ r ≡ sameTotals a b ⌝ }
 {
     if a.whole != b.whole {
         return false;
@@ -72,7 +72,7 @@ fn same_texts(
     if !demand_shared::same_bytes(parts, once) {
         return false;
     }
-    demand_shared::same_codes(parts_list, once_list)
+    demand_shared::same_numbers(parts_list, once_list)
 }
 
 // Both ways, into buffers of their own: is each granted exactly where it has room, and is the same found, and what the whole repair

@@ -1,5 +1,4 @@
 -- A cut position that is brought lies between the previous one and the end.
--- Assumes nothing.
 use Prim.Native.Nat.{ℕ, _≤_}
 use native.Mathlib.Nat.{le-refl}
 use lib.Dec.{ltb}

@@ -1,5 +1,4 @@
 -- Cut positions, which may be any numbers.
--- Assumes nothing.
 use Prim.Native.Nat.{ℕ}
 use mathlib.Core.Bool.{cond}
 use lib.Dec.{ltb}

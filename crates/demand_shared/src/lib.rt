@@ -27,7 +27,7 @@ pub fn least(a: usize, b: usize) -> usize
     b
 }
 
-// Have they the same elements?
+// Are two texts of bytes the same?
 pub fn same_bytes(bytes: &[u8], others: &[u8]) -> bool
     ensures { λ r. ⌜ r ≡ equal (now (bytes .entry)) (now (others .entry)) ⌝ }
 {
@@ -44,6 +44,7 @@ pub fn same_bytes(bytes: &[u8], others: &[u8]) -> bool
     true
 }
 
+// Are two texts of units the same?
 pub fn same_units(units: &[u16], others: &[u16]) -> bool
     ensures { λ r. ⌜ r ≡ equal (now (units .entry)) (now (others .entry)) ⌝ }
 {
@@ -60,15 +61,16 @@ pub fn same_units(units: &[u16], others: &[u16]) -> bool
     true
 }
 
-pub fn same_codes(codes: &[u32], others: &[u32]) -> bool
-    ensures { λ r. ⌜ r ≡ equal (now (codes .entry)) (now (others .entry)) ⌝ }
+// Are two rows of 32-bit numbers the same?
+pub fn same_numbers(numbers: &[u32], others: &[u32]) -> bool
+    ensures { λ r. ⌜ r ≡ equal (now (numbers .entry)) (now (others .entry)) ⌝ }
 {
-    if codes.len() != others.len() {
+    if numbers.len() != others.len() {
         return false;
     }
     let mut i = 0;
-    while i < codes.len() {
-        if codes[i] != others[i] {
+    while i < numbers.len() {
+        if numbers[i] != others[i] {
             return false;
         }
         i += 1;

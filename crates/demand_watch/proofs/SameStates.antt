@@ -1,5 +1,4 @@
 -- The comparison of two states says yes exactly of the same, and a feed from the fresh state is refused only where that is due.
--- Assumes nothing.
 use mathlib.Core.Path.{_≡_, sym, ap, _∙_}
 use Prim.Native.Nat.{ℕ, _/_, _*_}
 use mathlib.Core.Bool.{Bool, true, false, true≢false}
@@ -10,7 +9,7 @@ use borrow.Author.Tests.{eq-eqb, eqb-true, lt-ltb, le-ltb, le-leb}
 use native.Mathlib.Omega.{arith}
 use Rattle.theory.proofs.Cases.{split, both, under}
 use Rattle.terms.specs.Limits.{limit, mostRoom, entryWidth, freshOf}
-use Rattle.terms.specs.Told.{refusal, isGranted}
+use Rattle.terms.specs.Told.{toldRefusal, isGranted}
 use Rattle.terms.specs.Writing.{roomed}
 use Rattle.terms.specs.declared.Decoder.{Decoder}
 use Rattle.terms.specs.declared.Refusal.{Refusal}
@@ -21,7 +20,7 @@ use Rattle.decoder.specs.State.{sound, fed}
 use Rattle.decoder.specs.Feeding.{feedSays}
 use Rattle.demand_shared.specs.Equal.{equal}
 use Rattle.demand_shared.proofs.EqualExactly.{equal-yes, equal-only}
-use Rattle.demand_watch.specs.Comparing.{sameState, isDue}
+use Rattle.demand_watch.specs.Inside.Comparing.{sameState, isDue}
 
 -- ---- two states
 
@@ -77,11 +76,11 @@ short-list row room = under row (entryWidth * room)
     (λ h. lt-ltb (row / entryWidth) room (omega arith) ∙ sym (lt-ltb row (entryWidth * room) h))
     (λ h. le-ltb (row / entryWidth) room (omega arith) ∙ sym (le-ltb row (entryWidth * room) h))
 
-module _ (room : ℕ) (text out list : List ℕ) (why : Refusal) (e : refusal why ≡ feedSays (freshOf room) text out list) where
+module _ (room : ℕ) (text out list : List ℕ) (why : Refusal) (e : toldRefusal why ≡ feedSays (freshOf room) text out list) where
   abbrev asked : Refusal → Bool
   asked r = isDue r (length text) room (length out) (length list)
 
-  so : (r : Refusal) → feedSays (freshOf room) text out list ≡ refusal r → asked r ≡ true → asked why ≡ true
+  so : (r : Refusal) → feedSays (freshOf room) text out list ≡ toldRefusal r → asked r ≡ true → asked why ≡ true
   so r f h = ap asked (told-refusal why r (e ∙ f)) ∙ h
 
   pub refused-due : asked why ≡ true
@@ -102,7 +101,7 @@ module _ (room : ℕ) (text out list : List ℕ) (why : Refusal) (e : refusal wh
       split (ltb (length out) form)
       (λ n. so (NoRoom form) (a ∙ rw n) n)
       (λ n.
-      let zero : refusal why ≡ 0 ∷ form ∷ [] = e ∙ a ∙ rw n in
+      let zero : toldRefusal why ≡ 0 ∷ form ∷ [] = e ∙ a ∙ rw n in
       absurd (true≢false (sym (ap isGranted zero) ∙ no-zero why))))))
       (λ s.
       so BadState (sym (admitted-unsound d long row _ s))

@@ -1,5 +1,4 @@
 -- The watch of a text byte by byte: its loop, and that it comes to the state and the count of one feed of the whole.
--- Assumes nothing.
 use mathlib.Core.Path.{_≡_, refl, sym, ap, _∙_}
 use Prim.Native.Nat.{ℕ, _+_, _≤_, _<_}
 use native.Mathlib.Numerals.{add-one}
@@ -9,7 +8,7 @@ use lib.ListN.{length, getD, drop, length-append}
 use lib.Seq.{drop-cons}
 use native.Mathlib.Omega.{arith}
 use Rattle.terms.specs.Limits.{limit, mostPending, freshOf}
-use Rattle.terms.specs.Told.{written, isGranted}
+use Rattle.terms.specs.Told.{toldWritten, isGranted}
 use Rattle.terms.specs.declared.Decoder.{Decoder}
 use Rattle.terms.specs.declared.Written.the-variants.{Count}
 use Rattle.decoder.specs.State.{sound, fed, closed}
@@ -56,7 +55,7 @@ pub same-as-fed : (room : ℕ) (text out list : List ℕ) {out′ list′ : List
     → Feeds (freshOf room) text out list out′ list′ q → (n : ℕ) → q .answer ≡ Count n → Same w q
 same-as-fed room text out list w q e f n a =
     let d = freshOf room in
-    let g : isGranted (feedSays d text out list) ≡ true = ap isGranted (sym (f .answer) ∙ ap written a) in
+    let g : isGranted (feedSays d text out list) ≡ true = ap isGranted (sym (f .answer) ∙ ap toldWritten a) in
     let ok = feed-grants d text out list g .admits in
     let state : q .state ≡ closed d (d .taken + length text) (fed d text list)
     = f .state ∙ ap (λ (t : Bool). cond t (closed d (d .taken + length text) (fed d text list)) d) g in

@@ -1,2 +1,4 @@
+-- The watch of a whole text, byte by byte, and a feed of it
 pub mod Watching
-pub mod Comparing
+-- What private steps promise each other
+pub mod Inside

@@ -1,5 +1,4 @@
 -- The watch of a whole text, byte by byte, and a feed of it.
--- Assumes nothing.
 use mathlib.Core.Path.{_≡_}
 use Prim.Native.Nat.{ℕ}
 use mathlib.Core.Bool.{Bool, true}

@@ -7,7 +7,7 @@ ghost use mathlib.Core.Path.{_≡_};
 ghost use Rattle.terms.specs.Limits.{freshOf};
 ghost use Rattle.decoder_watch.specs.Watching.{counting};
 ghost use Rattle.demand_watch.specs.Watching.{watches, Watches};
-ghost use Rattle.demand_watch.specs.Comparing.{sameState, isDue};
+ghost use Rattle.demand_watch.specs.Inside.Comparing.{sameState, isDue};
 
 // The last state and reply of the step by value, which the lent form of the watch does in place.
 fn watch_all(text: &[u8], room: usize) -> Watched

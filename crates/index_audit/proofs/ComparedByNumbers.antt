@@ -1,5 +1,4 @@
 -- Entries of an index: how a checkpoint is compared.
--- Assumes nothing.
 use mathlib.Core.Path.{_≡_, refl, sym}
 use Prim.Native.Nat.{ℕ, suc, _*_, _≤_}
 use mathlib.Core.Bool.{true, _&&_, and-assoc, and-true}
@@ -10,13 +9,13 @@ use lib.Dec.{eqb}
 use borrow.Author.Tests.{eqb-true, eq-eqb}
 use native.Mathlib.Omega.{arith}
 use Rattle.theory.proofs.Cases.{both}
-use Rattle.place.specs.Lookup.{counts}
+use Rattle.place.specs.Lookup.{fourCounts}
 use Rattle.place.specs.declared.Place.{Place}
 use Rattle.index_checkpoint.specs.Checkpoints.{width, placeOf, checkpoint}
 use Rattle.index_audit.specs.Audits.{same}
 
 -- four numbers are the counts of a place
-counts-of : (l : List ℕ) → length l ≡ width → counts (placeOf l) ≡ l
+counts-of : (l : List ℕ) → length l ≡ width → fourCounts (placeOf l) ≡ l
 counts-of [] h = absurd (omega arith)
 counts-of (a ∷ []) h = absurd (omega arith)
 counts-of (a ∷ b ∷ []) h = absurd (omega arith)
@@ -25,7 +24,7 @@ counts-of (a ∷ b ∷ c ∷ d ∷ []) h = refl
 counts-of (a ∷ b ∷ c ∷ d ∷ e ∷ l) h = absurd (omega arith)
 
 -- and so a checkpoint that the index has loses none of them
-pub checkpoint-counts : (row : List ℕ) (k : ℕ) → width * suc k ≤ length row → counts (checkpoint row k) ≡ take width (drop (width * k) row)
+pub checkpoint-counts : (row : List ℕ) (k : ℕ) → width * suc k ≤ length row → fourCounts (checkpoint row k) ≡ take width (drop (width * k) row)
 checkpoint-counts row k h =
     let l : List ℕ = take width (drop (width * k) row) in
     counts-of l (length-take-le width (drop (width * k) row) (omega (arith, length-drop (width * k) row)))
@@ -53,5 +52,5 @@ same-append (x ∷ xs) (y ∷ ys) us vs e = rw (same-append xs ys us vs (omega a
 
 -- the four tests that compare two places
 pub same-places : (p q : Place)
-    → eqb (p .bytes) (q .bytes) && eqb (p .units) (q .units) && eqb (p .points) (q .points) && eqb (p .lines) (q .lines) ≡ same (counts p) (counts q)
+    → eqb (p .bytes) (q .bytes) && eqb (p .units) (q .units) && eqb (p .points) (q .points) && eqb (p .lines) (q .lines) ≡ same (fourCounts p) (fourCounts q)
 same-places p q = simp (and-assoc, and-true)

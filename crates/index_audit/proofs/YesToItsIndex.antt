@@ -1,5 +1,4 @@
 -- What the audit says yes to: a row that begins with the text's index.
--- Assumes nothing.
 use mathlib.Core.Path.{_≡_}
 use mathlib.Core.Logic.{_↔_}
 use Prim.Native.Nat.{ℕ, _≤_}

@@ -6,13 +6,13 @@ use place::Place;
 use place::Placed;
 use terms::Decoder;
 ghost use mathlib.Core.Path.{_≡_};
-ghost use Rattle.place.specs.Lookup.{counts};
+ghost use Rattle.place.specs.Lookup.{fourCounts};
 ghost use Rattle.index_checkpoint.specs.Checkpoints.{checkpoint};
 ghost use Rattle.index_audit.specs.Audits.{same, auditSays};
 
 // Checkpoint k has the counts of a place.
 fn agrees(row: &[u32], k: usize, p: Place) -> bool
-    ensures { λ r. ⌜ r ≡ same (counts (checkpoint (now (row .entry)) k)) (counts p) ⌝ }
+    ensures { λ r. ⌜ r ≡ same (fourCounts (checkpoint (now (row .entry)) k)) (fourCounts p) ⌝ }
 {
     let q = index_checkpoint::checkpoint(row, k);
     (q.bytes == p.bytes) & (q.units == p.units) & (q.points == p.points) & (q.lines == p.lines)

@@ -1,6 +1,5 @@
 -- Many calls by one caller: the cutting of the text does not matter, the state always passes its tests, and lookup by what is
 -- built answers as plain lookup.
--- Assumes nothing.
 use mathlib.Core.Path.{_≡_, refl, sym, ap, ap₂, _∙_}
 use Prim.Native.Nat.{ℕ, _+_, _-_, _≤_, _<_}
 use native.Mathlib.Nat.{zero-add}
@@ -13,7 +12,7 @@ use Rattle.theory.specs.Reader.{cut, parts}
 use Rattle.theory.specs.Stream.{join, State, after, feed, fresh}
 use Rattle.theory.specs.Stream as stream
 use Rattle.theory.specs.Course.{Course, called}
-use Rattle.theory.specs.Index.{Built, add, begun, build}
+use Rattle.theory.specs.Index.{Built, add, startMarked, build}
 use Rattle.theory.proofs.AnyCalls.{course-keeps, Follows, follows-start}
 use Rattle.theory.proofs.Cases.{either}
 use Rattle.theory.proofs.Divisions.{cut-parts, parts-size}
@@ -26,12 +25,12 @@ use Rattle.terms.specs.Told.{isGranted, ifGranted}
 use Rattle.place.proofs.ReaderDivides.{reader-division}
 use Rattle.utf8_pending.proofs.SettledFirst.{left-kept, left-tail}
 use Rattle.place.specs.Measures.{place, ruler, reader}
-use Rattle.place.specs.Lookup.{counts}
+use Rattle.place.specs.Lookup.{fourCounts}
 use Rattle.place.specs.declared.Place.{Place}
 use Rattle.place.proofs.MeasuresRise.{measured, Ordered, ordered}
 use Rattle.index_checkpoint.specs.Checkpoints.{spacing, width, needed, indexOf}
 use Rattle.index_lookup.proofs.AnswersAsPlain.{as-plain}
-use Rattle.index_build.specs.State.{freshBuilder, left, settled, sound, building, buildSays}
+use Rattle.index_build.specs.State.{freshBuilder, left, settledPlace, sound, toldBuilding, buildSays}
 use Rattle.index_build.specs.declared.state.Builder.{Builder}
 use Rattle.index_build.specs.declared.state.Built as the-built
 use Rattle.index_build.proofs.TestsAsFacts.{is-sound}
@@ -47,17 +46,17 @@ spaced = omega arith
 
 module _ (row : List ℕ) where
   abbrev start : Built Place
-  start = begun ruler counts width spacing row
+  start = startMarked ruler fourCounts width spacing row
 
   abbrev streamOf : List ℕ → State (Built Place)
-  streamOf = after reader (add ruler counts width spacing) start
+  streamOf = after reader (add ruler fourCounts width spacing) start
 
   abbrev stateOf : List ℕ → Builder
   stateOf text = closed (length text) (streamOf text)
 
   module _ (text : List ℕ) where
-    kept-is : streamOf text .kept ≡ build ruler counts width spacing start (parts reader text .done)
-    kept-is = built-so-far measured counts width spacing spaced (λ p. refl) reader-division row text (streamOf text) refl
+    kept-is : streamOf text .kept ≡ build ruler fourCounts width spacing start (parts reader text .done)
+    kept-is = built-so-far measured fourCounts width spacing spaced (λ p. refl) reader-division row text (streamOf text) refl
 
     abbrev at : Place
     at = streamOf text .kept .place
@@ -70,7 +69,7 @@ module _ (row : List ℕ) where
         rw (place-is, bytes-foldl measured (ruler .zeroth) (parts reader text .done), zero-add) (parts-size reader text)
 
     -- it is the last settled place
-    settled-is : settled (stateOf text) ≡ at
+    settled-is : settledPlace (stateOf text) ≡ at
     settled-is =
         let e : length text - length (parts reader text .left) ≡ at .bytes = omega (arith, bytes-are) in
         ap (λ (n : ℕ). place n (at .units) (at .points) (at .lines)) e
@@ -100,18 +99,18 @@ module _ (row : List ℕ) where
         })
 
     -- and with a row on which checkpoint 0 may be written yet it opens this stream again
-    opened-is : (now : List ℕ) → begun ruler counts width spacing now .row ≡ streamOf text .kept .row → opened (stateOf text) now ≡ streamOf text
+    opened-is : (now : List ℕ) → startMarked ruler fourCounts width spacing now .row ≡ streamOf text .kept .row → opened (stateOf text) now ≡ streamOf text
     opened-is now e = λ i. record { left = left-is i; kept = record { place = settled-is i; row = e i } }
 
-    again : begun ruler counts width spacing (streamOf text .kept .row) .row ≡ streamOf text .kept .row
-    again = rw kept-is (build-again measured counts width spacing spaced (λ p. refl) (ruler .zeroth) row (parts reader text .done))
+    again : startMarked ruler fourCounts width spacing (streamOf text .kept .row) .row ≡ streamOf text .kept .row
+    again = rw kept-is (build-again measured fourCounts width spacing spaced (λ p. refl) (ruler .zeroth) row (parts reader text .done))
 
     row-long : length (streamOf text .kept .row) ≡ length row
     row-long = rw kept-is (simp length-sets)
 
     -- the index stands at the start of a row that is long enough
     index-long : length (indexOf text) ≡ needed (length text)
-    index-long = rw (written-fixed counts width (λ p. refl), tab-length)
+    index-long = rw (written-fixed fourCounts width (λ p. refl), tab-length)
 
     finished-as : needed (length text) ≤ length row → sets row 0 (indexOf text) ≡ indexOf text ++ drop (needed (length text)) row
     finished-as h =
@@ -127,16 +126,16 @@ reads h = opened (h .state) (h .row)
 module _ (row : List ℕ) where
   -- WHAT EVERY GRANTED CALL KEEPS: the stream of the text that was taken, and the state that it leaves
   pub record Keeps (text : List ℕ) (h : Caller) : Type 0 where
-    pub follows : Follows reader-division (add ruler counts width spacing) (start row) reads text h
+    pub follows : Follows reader-division (add ruler fourCounts width spacing) (start row) reads text h
     pub within : length text ≤ limit
     pub state-is : h .state ≡ stateOf row text
     pub long : length (h .row) ≡ length row
 
   keeps-start : Keeps [] (starting row)
   keeps-start =
-      let e : streamOf row [] ≡ fresh (start row) = after-nil reader-division (add ruler counts width spacing) (start row) in
+      let e : streamOf row [] ≡ fresh (start row) = after-nil reader-division (add ruler fourCounts width spacing) (start row) in
       record {
-        follows = follows-start reader-division (add ruler counts width spacing) (start row) reads (starting row) refl;
+        follows = follows-start reader-division (add ruler fourCounts width spacing) (start row) reads (starting row) refl;
         within = omega arith;
         state-is = sym (ap (closed 0) e);
         long = refl;
@@ -145,8 +144,8 @@ module _ (row : List ℕ) where
   keeps-next : (text : List ℕ) (h : Caller) (piece : List ℕ) → feedOf .grants h piece ≡ true → Keeps text h → Keeps (text ++ piece) (feedOf .goes h piece)
   keeps-next text h piece g k =
       let fed-is : fed (h .state) piece (h .row) ≡ streamOf row (text ++ piece)
-      = ap (λ (s : State (Built Place)). feed reader (add ruler counts width spacing) s piece) (k .follows)
-      ∙ feed-after reader-division (add ruler counts width spacing) (start row) text piece in
+      = ap (λ (s : State (Built Place)). feed reader (add ruler fourCounts width spacing) s piece) (k .follows)
+      ∙ feed-after reader-division (add ruler fourCounts width spacing) (start row) text piece in
       let t : h .state .taken ≡ length text = ap (λ (b : Builder). b .taken) (k .state-is) in
       let n : h .state .taken + length piece ≡ length (text ++ piece) = omega (arith, t, length-append text piece) in
       let s : feedOf .goes h piece .state ≡ stateOf row (text ++ piece) = ap₂ closed n fed-is in
@@ -180,14 +179,14 @@ module _ (row : List ℕ) where
         sym (says-done (h .state) (length piece) (length (h .row)) (o .tests) (rw (o .taken) w) (rw (o .taken, k .long) n))
 
     -- AND AT THE END the row holds the index of the text
-    pub keeps-ends : (row′ : List ℕ) (q : the-built.Built) → Finishes (h .state) (h .row) row′ q → isGranted (building (q .answer)) ≡ true → Ends row text row′ q
+    pub keeps-ends : (row′ : List ℕ) (q : the-built.Built) → Finishes (h .state) (h .row) row′ q → isGranted (toldBuilding (q .answer)) ≡ true → Ends row text row′ q
     keeps-ends row′ q f a =
         let g : isGranted (buildSays (h .state) 0 (length (h .row))) ≡ true = rw (f .answer) at a in
         let n : needed (length text) ≤ length row = omega (arith, says-granted (h .state) 0 (h .row) g .room, keeps-holds .taken, k .long) in
         let w : row′ ≡ sets row 0 (indexOf text)
         = f .checkpoints
         ∙ ap (λ (b : Bool). cond b (ended (h .state) (h .row) .row) (h .row)) g
-        ∙ built-at-end measured counts width spacing spaced (λ p. refl) reader-division row text (reads h) (k .follows) in
+        ∙ built-at-end measured fourCounts width spacing spaced (λ p. refl) reader-division row text (reads h) (k .follows) in
         let v : row′ ≡ indexOf text ++ drop (needed (length text)) row = w ∙ finished-as row text n in
         record {
           written = w;
@@ -208,7 +207,7 @@ built-as-plain row pieces row′ q f a = as-plain row′ _ (built-as-whole row p
 
 pub feeds-called : (r : Course Caller) (piece row′ : List ℕ) (q : the-built.Built) → Feeds (r .caller .state) piece (r .caller .row) row′ q
     → called feedOf r piece
-    ≡ ifGranted (building (q .answer)) (record { caller = record { state = q .state; row = row′ }; pieces = r .pieces ++ piece ∷ [] }) r
+    ≡ ifGranted (toldBuilding (q .answer)) (record { caller = record { state = q .state; row = row′ }; pieces = r .pieces ++ piece ∷ [] }) r
 feeds-called r piece row′ q h =
     let new = feedOf .goes (r .caller) piece in
     rw (h .answer, h .state, h .checkpoints)

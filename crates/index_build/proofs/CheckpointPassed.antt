@@ -1,5 +1,4 @@
 -- One segment: the place behind it, and the checkpoint that it passes.
--- Assumes nothing.
 use mathlib.Core.Path.{_≡_, ap, _∙_}
 use Prim.Native.Nat.{ℕ, _+_, _-_, _*_, _/_, _%_, _^_, _≤_, _<_}
 use mathlib.Core.List.{List}
@@ -14,12 +13,12 @@ use Rattle.theory.specs.Tally.{size}
 use Rattle.theory.proofs.Cases.{split, under}
 use Rattle.place.specs.Measures.{ruler, reader}
 use Rattle.place.specs.Walk.{unitsBySize, linesByHead}
-use Rattle.place.specs.Lookup.{counts}
+use Rattle.place.specs.Lookup.{fourCounts}
 use Rattle.place.specs.declared.Place.{Place}
 use Rattle.place.proofs.MeasuresRise.{units-by-size}
 use Rattle.index_checkpoint.specs.Checkpoints.{spacing, width, needed}
 use Rattle.index_checkpoint.specs.Marks.{markedAt, markedOnce}
-use Rattle.index_build.specs.Steps.{Fits, marked, behind, Ahead, builtOf}
+use Rattle.index_build.specs.Inside.Steps.{Fits, marked, behind, Ahead, builtOf}
 
 -- ---- one checkpoint
 
@@ -28,7 +27,7 @@ pub record Holds (p : Place) (k : ℕ) (row : List ℕ) : Type 0 where
   pub fits : Fits p
   pub room : width * k + width ≤ length row
 
-pub held-marked : (p : Place) (k : ℕ) (row : List ℕ) → Holds p k row → markedAt row k p ≡ sets row (width * k) (counts p)
+pub held-marked : (p : Place) (k : ℕ) (row : List ℕ) → Holds p k row → markedAt row k p ≡ sets row (width * k) (fourCounts p)
 held-marked p k row h =
     let f = h .fits in
     let b : p .bytes % 2 ^ 32 ≡ p .bytes = omega (arith, f .within) in
@@ -55,13 +54,13 @@ module _ (p q : Place) (row : List ℕ) (h : Between p q row) where
   one : spacing * (p .bytes / spacing + 1) ≤ q .bytes → marks spacing (q .bytes) - marks spacing (p .bytes) ≡ 1
   one l = omega (arith, h .near)
 
-  mark-at : q .bytes ≡ spacing * (p .bytes / spacing + 1) → sets row (width * (p .bytes / spacing + 1)) (counts q) ≡ marked row p q
+  mark-at : q .bytes ≡ spacing * (p .bytes / spacing + 1) → sets row (width * (p .bytes / spacing + 1)) (fourCounts q) ≡ marked row p q
   mark-at e =
       let l : q .bytes ≤ spacing * marks spacing (p .bytes) = omega arith in
       let s : p .bytes / spacing + 1 ≡ marks spacing (p .bytes) = omega arith in
       rw (one (omega arith), le-leb (q .bytes) (spacing * marks spacing (p .bytes)) l, s)
 
-  mark-over : spacing * (p .bytes / spacing + 1) < q .bytes → sets row (width * (p .bytes / spacing + 1)) (counts p) ≡ marked row p q
+  mark-over : spacing * (p .bytes / spacing + 1) < q .bytes → sets row (width * (p .bytes / spacing + 1)) (fourCounts p) ≡ marked row p q
   mark-over o =
       let l : spacing * marks spacing (p .bytes) < q .bytes = omega arith in
       let s : p .bytes / spacing + 1 ≡ marks spacing (p .bytes) = omega arith in
@@ -114,7 +113,7 @@ module _ (p : Place) (n x : ℕ) (row : List ℕ) (a : Ahead p n row) where
 -- it is what the builder's action of that segment gives
 pub add-first : (p : Place) (row : List ℕ) (x : ℕ) (xs : List ℕ)
     → let q : Place = behind p (size (first reader x xs)) x in
-    add ruler counts width spacing (builtOf p row) (first reader x xs) ≡ builtOf q (marked row p q)
+    add ruler fourCounts width spacing (builtOf p row) (first reader x xs) ≡ builtOf q (marked row p q)
 add-first p row x xs =
     let s = first reader x xs in
     let e : ruler .step p s ≡ behind p (size s) x = rw (units-by-size x xs) in

@@ -1,5 +1,4 @@
 -- What a call answers, and what it leaves where it is granted and where it is refused.
--- Assumes nothing.
 use mathlib.Core.Path.{_≡_, sym, ap}
 use Prim.Native.Nat.{ℕ, _+_}
 use mathlib.Core.Bool.{true, true≢false}
@@ -8,7 +7,7 @@ use lib.ListN.{length}
 use lib.Dec.{ltb}
 use borrow.Author.Tests.{ltb-false}
 use Rattle.theory.proofs.Cases.{split}
-use Rattle.terms.specs.Told.{refusal, isGranted}
+use Rattle.terms.specs.Told.{toldRefusal, isGranted}
 use Rattle.terms.specs.declared.Refusal.{Refusal}
 use Rattle.terms.proofs.ToldBack.{no-zero}
 use Rattle.terms.proofs.Tested.{granted-passed}
@@ -18,7 +17,7 @@ use Rattle.index_build.specs.declared.state.Builder.{Builder}
 use Rattle.index_build.specs.declared.state.Building.the-variants.{Done, Refused}
 use Rattle.index_build.proofs.ChecksInOrder.{says-done}
 use Rattle.index_build.specs.Building.{ended, Feeds, Finishes}
-use Rattle.index_build.specs.Steps.{Granted, grown}
+use Rattle.index_build.specs.Inside.Steps.{Granted, grown}
 
 -- ---- a call that is granted has passed them all
 
@@ -45,7 +44,7 @@ module _ (b : Builder) (piece row : List ℕ) where
       let e = granted-says b (length piece) row g in
       record { answer = sym e; state = rw e (h .state); checkpoints = rw e (h .checkpoints) }
 
-  pub feed-refused : (why : Refusal) → refusal why ≡ buildSays b (length piece) (length row)
+  pub feed-refused : (why : Refusal) → toldRefusal why ≡ buildSays b (length piece) (length row)
       → Feeds b piece row row (record { answer = Refused why; state = b })
   feed-refused why e = record { answer = e; state = rw (← e, no-zero why); checkpoints = rw (← e, no-zero why) }
 
@@ -56,6 +55,6 @@ module _ (b : Builder) (row : List ℕ) where
       let e = granted-says b 0 row g in
       record { answer = sym e; state = rw e f; checkpoints = rw e h }
 
-  pub finish-refused : (why : Refusal) → refusal why ≡ buildSays b 0 (length row)
+  pub finish-refused : (why : Refusal) → toldRefusal why ≡ buildSays b 0 (length row)
       → Finishes b row row (record { answer = Refused why; state = b })
   finish-refused why e = record { answer = e; state = rw (← e, no-zero why); checkpoints = rw (← e, no-zero why) }

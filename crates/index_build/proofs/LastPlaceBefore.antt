@@ -1,5 +1,4 @@
 -- The last place at or before a byte of whole segments: the one that a step back from there leads to.
--- Assumes nothing.
 use mathlib.Core.Path.{_≡_, refl, sym, ap, subst, _∙_}
 use Prim.Native.Nat.{ℕ, suc, _+_, _-_, _≤_, _<_}
 use mathlib.Core.Bool.{false, true≢false}
@@ -14,29 +13,29 @@ use Rattle.theory.proofs.Cases.{under}
 use Rattle.theory.proofs.Divisions.{cut-nil, cut-cons, cut-append, first-size}
 use Rattle.theory.proofs.PlacesFound.{last-here, last-from, bytes-mono}
 use Rattle.terms.proofs.ConvertsBack.{AllWhole}
-use Rattle.utf8_scan.specs.Stands.{later}
+use Rattle.utf8_scan.specs.Stands.{isLater}
 use Rattle.place.proofs.ReaderDivides.{reader-division}
-use Rattle.index_count.specs.Edges.{Edge}
+use Rattle.index_count.specs.Inside.Edges.{Edge}
 use Rattle.index_count.proofs.CutsBetweenSegments.{Cut, cut-edge, first-edge}
 use Rattle.place.specs.Measures.{ruler, reader}
-use Rattle.place.specs.Lookup.{counts}
+use Rattle.place.specs.Lookup.{fourCounts}
 use Rattle.place.specs.declared.Place.{Place}
 use Rattle.place.proofs.MeasuresRise.{measured}
-use Rattle.index_count.specs.Summed.{summed}
-use Rattle.index_count.proofs.CountsAdd.{summed-append, summed-same}
-use Rattle.index_count.proofs.BackToBoundary.{StepsBack}
+use Rattle.index_build.specs.Inside.Summed.{summed}
+use Rattle.index_build.proofs.CountsAdd.{summed-append, summed-same}
+use Rattle.index_build.proofs.BackToBoundary.{StepsBack}
 use Rattle.index_build.proofs.PlaceBySums.{summed-is, parts-whole}
 
 module _ (text : List ℕ) (w : AllWhole (cut reader text)) where
-  pub whole-first : (n : ℕ) → AllWhole (cut reader (drop n text)) → n < length text → later (getD text n 0) ≡ false
+  pub whole-first : (n : ℕ) → AllWhole (cut reader (drop n text)) → n < length text → isLater (getD text n 0) ≡ false
   whole-first n v h = go (drop n text) refl v
     where
-      go : (rest : List ℕ) → drop n text ≡ rest → AllWhole (cut reader rest) → later (getD text n 0) ≡ false
+      go : (rest : List ℕ) → drop n text ≡ rest → AllWhole (cut reader rest) → isLater (getD text n 0) ≡ false
       go [] e v = absurd (omega (arith, length-drop n text, ap length e))
       go (x ∷ xs) e v =
           let z : n + 0 ≡ n = omega arith in
           let i : x ≡ getD text n 0 = ap (λ (t : List ℕ). getD t 0 0) (sym e) ∙ getD-drop n text 0 0 ∙ rw z in
-          subst (λ (y : ℕ). later y ≡ false) i (first-edge x xs v)
+          subst (λ (y : ℕ). isLater y ≡ false) i (first-edge x xs v)
 
   module _ (b : ℕ) (h : b ≤ length text) (e : Edge text b) where
     pub whole-parted : Cut text b
@@ -67,7 +66,7 @@ module _ (text : List ℕ) (w : AllWhole (cut reader text)) where
         let d : drop k text ≡ drop (reader x xs .more) xs = sym (drop-drop (size (first reader x xs)) start text) ∙ rw (e, z) in
         let v : AllWhole (first reader x xs ∷ cut reader (drop (reader x xs .more) xs))
         = rw (e, cut-cons reader x xs) at (whole-parted start back-inside (s .edge) .behind) in
-        let f : later (getD text k 0) ≡ false = whole-first k (rw d (v .1)) (omega arith) in
+        let f : isLater (getD text k 0) ≡ false = whole-first k (rw d (v .1)) (omega arith) in
         absurd (true≢false (sym (s .others k (omega arith) i (omega arith)) ∙ f)))
         (λ j. absurd (omega (arith, s .ended j, length-drop start text))))
 

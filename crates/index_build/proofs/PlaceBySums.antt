@@ -1,5 +1,4 @@
 -- The place behind whole segments is that of the sums of their bytes, and the stream behind them is at their end.
--- Assumes nothing.
 use mathlib.Core.Path.{_≡_, _∙_}
 use Prim.Native.Nat.{ℕ, zero, _+_, _≤_}
 use mathlib.Core.Bool.{false}
@@ -21,8 +20,8 @@ use Rattle.place.specs.Measures.{place, unitsOf, linesOf, ruler, reader}
 use Rattle.place.specs.Walk.{unitsBySize}
 use Rattle.place.specs.declared.Place.{Place}
 use Rattle.place.proofs.MeasuresRise.{units-by-size}
-use Rattle.index_count.specs.Summed.{summed}
-use Rattle.index_build.specs.Steps.{Fits}
+use Rattle.index_build.specs.Inside.Summed.{summed}
+use Rattle.index_build.specs.Inside.Steps.{Fits}
 
 -- ---- the place behind whole segments
 

@@ -1,5 +1,4 @@
 -- THE RUN has been counted as far as a byte, and the checkpoints up to there are written.
--- Assumes nothing.
 use mathlib.Core.Path.{_≡_, refl, sym, ap, _∙_}
 use Prim.Native.Nat.{ℕ, _+_, _-_, _*_, _/_, _%_, _≤_, _<_}
 use mathlib.Core.List.{List, [], _∷_, _++_, foldl}
@@ -21,17 +20,16 @@ use Rattle.place.proofs.ReaderDivides.{reader-division}
 use Rattle.index_count.specs.Counts.{startOf, fourOf, endOf}
 use Rattle.index_count.proofs.CountsByBlocks.{start-few, four-few, end-few, total-few}
 use Rattle.place.specs.Measures.{ruler, reader}
-use Rattle.place.specs.Lookup.{counts}
-use Rattle.place.specs.Walk.{wrapped}
+use Rattle.place.specs.Lookup.{fourCounts}
 use Rattle.place.specs.declared.Place.{Place}
 use Rattle.place.proofs.MeasuresRise.{measured}
 use Rattle.index_checkpoint.specs.Checkpoints.{spacing, width}
-use Rattle.index_count.specs.Summed.{summed, back}
-use Rattle.index_count.proofs.CountsAdd.{Roomy, summed-plain, summed-none, summed-append}
-use Rattle.index_count.proofs.BackToBoundary.{Covers, StepsBack, steps-back}
+use Rattle.index_build.specs.Inside.Summed.{summed, Adds, Covers, back}
+use Rattle.index_build.proofs.CountsAdd.{summed-none, summed-append}
+use Rattle.index_build.proofs.BackToBoundary.{StepsBack, steps-back}
 use Rattle.index_checkpoint.specs.Marks.{markedAt}
-use Rattle.index_build.specs.Steps.{builtOf, Walked}
-use Rattle.index_build.specs.Runs.{Runs}
+use Rattle.index_build.specs.Inside.Steps.{builtOf, Walked}
+use Rattle.index_build.specs.Inside.Runs.{Runs}
 use Rattle.index_build.proofs.CheckpointPassed.{Holds, held-marked}
 use Rattle.index_build.proofs.PlaceBySums.{summed-is, summed-fits, parts-whole}
 use Rattle.index_build.proofs.LastPlaceBefore.{whole-first, whole-parted, back-inside, back-last, back-place}
@@ -41,16 +39,16 @@ abbrev checkpoint : Place → List ℕ → ℕ → Place
 checkpoint from text k = last (ruler .step) (ruler .bytes) (spacing * k) from (cut reader text)
 
 abbrev checkpoints : Place → List ℕ → ℕ → ℕ → List ℕ
-checkpoints from text k n = written counts (tab k n (checkpoint from text))
+checkpoints from text k n = written fourCounts (tab k n (checkpoint from text))
 
 checkpoints-long : (from : Place) (text : List ℕ) (k n : ℕ) → length (checkpoints from text k n) ≡ width * n
-checkpoints-long from text k n = written-fixed counts width (λ p. refl) (tab k n (checkpoint from text)) ∙ rw tab-length
+checkpoints-long from text k n = written-fixed fourCounts width (λ p. refl) (tab k n (checkpoint from text)) ∙ rw tab-length
 
 checkpoints-next : (from : Place) (text : List ℕ) (k n : ℕ)
-    → checkpoints from text k (n + 1) ≡ checkpoints from text k n ++ counts (checkpoint from text (k + n))
+    → checkpoints from text k (n + 1) ≡ checkpoints from text k n ++ fourCounts (checkpoint from text (k + n))
 checkpoints-next from text k n =
-    ap (written counts) (tab-append k n 1 (checkpoint from text))
-    ∙ written-append counts (tab k n (checkpoint from text)) (checkpoint from text (k + n) ∷ [])
+    ap (written fourCounts) (tab-append k n 1 (checkpoint from text))
+    ∙ written-append fourCounts (tab k n (checkpoint from text)) (checkpoint from text (k + n) ∷ [])
 
 pub record Passed (text : List ℕ) (from : Place) (row₀ row : List ℕ) (q : Place) (at : ℕ) : Type 0 where
   pub inside : at ≤ length text
@@ -73,32 +71,28 @@ module _ (text : List ℕ) (from : Place) (row₀ : List ℕ) (r : Runs from tex
 
     -- m bytes more can be counted
     module _ (m : ℕ) (h : at + m ≤ length text) where
-      part-long : length (take m (drop at text)) ≡ m
-      part-long = length-take-le m (drop at text) (omega (arith, length-drop at text))
-
-      roomy : Roomy q (take m (drop at text))
-      roomy =
+      pub passed-adds : Adds q (take m (drop at text))
+      passed-adds =
           let f = r .walks .fits in
+          let n : length (take m (drop at text)) ≡ m = length-take-le m (drop at text) (omega (arith, length-drop at text)) in
           let l : length (take at text) ≡ at = length-take-le at text (d .inside) in
-          let u : q .units ≤ from .units + 2 * at
-          = rw (d .place-is) (omega (arith, total-few startOf start-few (take at text), total-few fourOf four-few (take at text))) in
-          let c : q .points ≤ from .points + at = rw (d .place-is) (omega (arith, total-few startOf start-few (take at text))) in
+          let s = total-few startOf start-few (take at text) in
+          let u : q .units ≤ from .units + 2 * at = rw (d .place-is) (omega (arith, total-few fourOf four-few (take at text))) in
+          let c : q .points ≤ from .points + at = rw (d .place-is) (omega arith) in
           let e : q .lines ≤ from .lines + at = rw (d .place-is) (omega (arith, total-few endOf end-few (take at text))) in
           record {
-            bytes = omega (arith, part-long, d .bytes-are, r .walks .within);
-            units = omega (arith, part-long, r .walks .within, f .units);
-            points = omega (arith, part-long, r .walks .within, f .units, f .points);
-            lines = omega (arith, part-long, r .walks .within, f .units, f .points, f .lines);
+            within = omega (arith, d .bytes-are, r .walks .within);
+            units = omega (arith, d .bytes-are, f .units);
+            points = omega (arith, d .bytes-are, f .units, f .points);
+            lines = omega (arith, d .bytes-are, f .units, f .points, f .lines);
           }
 
-      summed-on : wrapped (summed q (take m (drop at text))) ≡ summed from (take (at + m) text)
-      summed-on =
-          summed-plain q (take m (drop at text)) roomy
-          ∙ rw (d .place-is, take-add at m text) (summed-append from (take at text) (take m (drop at text)))
+      summed-on : summed q (take m (drop at text)) ≡ summed from (take (at + m) text)
+      summed-on = rw (d .place-is, take-add at m text) (summed-append from (take at text) (take m (drop at text)))
 
     -- as far as the next checkpoint
     module _ (h : at + (spacing - q .bytes % spacing) ≤ length text) (v : Place)
-        (t : v ≡ wrapped (summed q (take (at + (spacing - q .bytes % spacing) - at) (drop at text)))) where
+        (t : v ≡ summed q (take (at + (spacing - q .bytes % spacing) - at) (drop at text))) where
       abbrev end : ℕ
       end = at + (spacing - q .bytes % spacing)
 
@@ -110,7 +104,7 @@ module _ (text : List ℕ) (from : Place) (row₀ : List ℕ) (r : Runs from tex
       there-bytes : v .bytes ≡ from .bytes + end
       there-bytes = ap (λ (p : Place). p .bytes) there-is ∙ rw (length-take-le end text h)
 
-      passed-covers : Covers v text end
+      pub passed-covers : Covers v text end
       passed-covers = rw there-is (record {
         inside = h;
         first = λ l. whole-first text wholes 0 wholes l;
@@ -144,7 +138,7 @@ module _ (text : List ℕ) (from : Place) (row₀ : List ℕ) (r : Runs from tex
             let g : p ≡ checkpoint from text j = back-place text wholes end h stepped from there-is ∙ sym (rw c at (back-last text wholes end h stepped from)) in
             let l : sets row₀ (width * old) (checkpoints from text old (n + 1))
             ≡ sets (sets row₀ (width * old) (checkpoints from text old n)) (width * old + length (checkpoints from text old n))
-            (counts (checkpoint from text (old + n)))
+            (fourCounts (checkpoint from text (old + n)))
             = ap (sets row₀ (width * old)) (checkpoints-next from text old n) ∙ sets-append row₀ (width * old) (checkpoints from text old n) _ in
             record {
               inside = h;
@@ -154,22 +148,22 @@ module _ (text : List ℕ) (from : Place) (row₀ : List ℕ) (r : Runs from tex
             }
 
     -- and to the end
-    pub passed-end : length text < at + (spacing - q .bytes % spacing) → (v : Place) → v ≡ wrapped (summed q (drop at text))
+    pub passed-end : length text < at + (spacing - q .bytes % spacing) → (v : Place) → v ≡ summed q (drop at text)
         → Walked text from row₀ row v (length text)
     passed-end h v e =
         let m : ℕ = length text - at in
         let t : take m (drop at text) ≡ drop at text = part-is text at in
         let k : at + m ≡ length text = omega (arith, d .inside) in
-        let s : v ≡ summed from text = e ∙ ap (λ (l : List ℕ). wrapped (summed q l)) (sym t) ∙ summed-on m (omega arith) ∙ rw (k, take-length text) in
+        let s : v ≡ summed from text = e ∙ ap (summed q) (sym t) ∙ summed-on m (omega arith) ∙ rw (k, take-length text) in
         let g : foldl (ruler .step) from (cut reader text) ≡ v = summed-is from text wholes ∙ sym s in
         let b : v .bytes ≡ from .bytes + length text = ap (λ (p : Place). p .bytes) s in
         let n : marks spacing (v .bytes) ≡ marks spacing (q .bytes) = omega (arith, d .bytes-are) in
-        let f : foldl (add ruler counts width spacing) (builtOf from row₀) (cut reader text) ≡ builtOf v row
-        = build-foldl measured counts width spacing (omega arith) (λ p. refl) (builtOf from row₀) (cut reader text) ∙ rw (g, n, ← d .row-is) in
+        let f : foldl (add ruler fourCounts width spacing) (builtOf from row₀) (cut reader text) ≡ builtOf v row
+        = build-foldl measured fourCounts width spacing (omega arith) (λ p. refl) (builtOf from row₀) (cut reader text) ∙ rw (g, n, ← d .row-is) in
         record {
           inside = omega arith;
           bytes-are = b;
           fits = rw s (summed-fits from text wholes (r .walks .fits) (r .walks .within));
           long = passed-long;
-          same = rw (parts-whole text wholes, f, drop-length text) (sym (after-nil reader-division (add ruler counts width spacing) (builtOf v row)));
+          same = rw (parts-whole text wholes, f, drop-length text) (sym (after-nil reader-division (add ruler fourCounts width spacing) (builtOf v row)));
         }

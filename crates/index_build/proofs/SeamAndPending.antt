@@ -1,5 +1,4 @@
 -- A state that takes a piece, or ends: the seam with what is pending, and the pending bytes as one segment.
--- Assumes nothing.
 use mathlib.Core.Path.{_≡_, sym, ap, _∙_}
 use Prim.Native.Nat.{ℕ, zero, suc, _+_, _-_, _≤_, _<_}
 use mathlib.Core.Bool.{true}
@@ -19,21 +18,21 @@ use Rattle.utf8_pending.specs.Tail as tail
 use Rattle.utf8_pending.proofs.SettledFirst.{settled-inside}
 use Rattle.utf8_pending.proofs.SeamIsFirst.{seam-pending, seam-over, seam-inside, seam-behind}
 use Rattle.place.specs.Measures.{ruler, reader}
-use Rattle.place.specs.Lookup.{counts}
+use Rattle.place.specs.Lookup.{fourCounts}
 use Rattle.place.specs.declared.Place.{Place}
 use Rattle.index_checkpoint.specs.Checkpoints.{spacing, width}
-use Rattle.index_build.specs.State.{left, settled}
+use Rattle.index_build.specs.State.{left, settledPlace}
 use Rattle.index_build.specs.declared.state.Builder.{Builder}
 use Rattle.index_build.proofs.TestsAsFacts.{Sound, sound-is}
 use Rattle.index_build.specs.Building.{closed, ended}
-use Rattle.index_build.specs.Steps.{Fits, marked, behind, Ahead, Advances, builtOf, streamOf, joined, Walks, keeping, Closes, Granted, Seams}
+use Rattle.index_build.specs.Inside.Steps.{Fits, marked, behind, Ahead, Advances, builtOf, streamOf, joined, Walks, keeping, Closes, Granted, Seams}
 use Rattle.index_build.proofs.CheckpointPassed.{behind-fits, add-first}
 use Rattle.index_build.proofs.StreamBehindWalk.{streamed, settled-few, settled-add}
 
 -- ---- the state
 
 module _ (b : Builder) (s : Sound b) where
-  pub settled-fits : Fits (settled b)
+  pub settled-fits : Fits (settledPlace b)
   settled-fits = record { lines = s .lines; points = s .points; units = s .units; within = omega (arith, s .within) }
 
   pub left-long : length (b .held) ≡ mostPending → length (left b) ≡ b .pending
@@ -53,22 +52,22 @@ module _ (b : Builder) (piece seam row : List ℕ) (s : Seams b piece seam row) 
   long = left-long b passes (s .three)
 
   abbrev taken : ℕ
-  taken = total size (tail.settled seam)
+  taken = total size (tail.firstSettled seam)
 
-  taken-is : taken ≡ total size (tail.settled (tail.four (left b) piece))
-  taken-is = ap (λ (t : List ℕ). total size (tail.settled t)) (s .seam-is)
+  taken-is : taken ≡ total size (tail.firstSettled (tail.four (left b) piece))
+  taken-is = ap (λ (t : List ℕ). total size (tail.firstSettled t)) (s .seam-is)
 
   -- nothing is settled: all of it is pending
-  pub join-none : taken ≡ 0 → (n : ℕ) (r : Builder) → r ≡ keeping seam (settled b) n → Closes n (joined b row piece) row r
+  pub join-none : taken ≡ 0 → (n : ℕ) (r : Builder) → r ≡ keeping seam (settledPlace b) n → Closes n (joined b row piece) row r
   join-none z n r e =
-      let z′ : total size (tail.settled (tail.four (left b) piece)) ≡ 0 = sym taken-is ∙ z in
-      let p : joined b row piece ≡ record { left = seam; kept = builtOf (settled b) row }
-      = ap (streamed (builtOf (settled b) row)) (seam-pending (left b) piece (passes .tail .begins) z′) ∙ rw (← s .seam-is) in
+      let z′ : total size (tail.firstSettled (tail.four (left b) piece)) ≡ 0 = sym taken-is ∙ z in
+      let p : joined b row piece ≡ record { left = seam; kept = builtOf (settledPlace b) row }
+      = ap (streamed (builtOf (settledPlace b) row)) (seam-pending (left b) piece (passes .tail .begins) z′) ∙ rw (← s .seam-is) in
       record { state = e ∙ sym (ap (closed n) p); checkpoints = sym (ap (λ (t : State (Built Place)). t .kept .row) p) }
 
   -- the segment at the seam is settled, and the piece goes on behind it
   module _ (some : taken ≡ 0 → ⊥) where
-    some-four : total size (tail.settled (tail.four (left b) piece)) ≡ 0 → ⊥
+    some-four : total size (tail.firstSettled (tail.four (left b) piece)) ≡ 0 → ⊥
     some-four z = some (taken-is ∙ z)
 
     pub join-some : 0 < length seam
@@ -80,7 +79,7 @@ module _ (b : Builder) (piece seam row : List ℕ) (s : Seams b piece seam row) 
     pub join-inside : taken - b .pending ≤ length piece
     join-inside = omega (arith, seam-inside (left b) piece (passes .tail .begins) some-four, long, taken-is)
 
-    pub join-ahead : Ahead (settled b) taken row
+    pub join-ahead : Ahead (settledPlace b) taken row
     join-ahead =
         let p = passes in
         let g = s .granted in
@@ -92,7 +91,7 @@ module _ (b : Builder) (piece seam row : List ℕ) (s : Seams b piece seam row) 
           room = omega (arith, join-over, join-inside, p .covers, g .room);
         }
 
-    pub join-walks : {x : ℕ} {row′ : List ℕ} {q : Place} → Advances (settled b) taken x row row′ q → Walks q (drop (taken - b .pending) piece) row′
+    pub join-walks : {x : ℕ} {row′ : List ℕ} {q : Place} → Advances (settledPlace b) taken x row row′ q → Walks q (drop (taken - b .pending) piece) row′
     join-walks {x} {row′} {q} a =
         let p = passes in
         let g = s .granted in
@@ -100,20 +99,20 @@ module _ (b : Builder) (piece seam row : List ℕ) (s : Seams b piece seam row) 
         let e : q .bytes + length (drop (taken - b .pending) piece) ≡ b .taken + length piece
         = rw (a .place-is) (omega (arith, join-over, join-inside, p .covers, length-drop (taken - b .pending) piece)) in
         record {
-          fits = rw (a .place-is) (behind-fits (settled b) taken x row join-ahead);
+          fits = rw (a .place-is) (behind-fits (settledPlace b) taken x row join-ahead);
           within = rw e (g .within);
           room = rw (e, l) (g .room);
         }
 
-    pub join-behind : {x : ℕ} {row′ : List ℕ} {q : Place} → x ≡ getD seam 0 0 → Advances (settled b) taken x row row′ q
+    pub join-behind : {x : ℕ} {row′ : List ℕ} {q : Place} → x ≡ getD seam 0 0 → Advances (settledPlace b) taken x row row′ q
         → streamOf q row′ (drop (taken - b .pending) piece) ≡ joined b row piece
     join-behind {x} {row′} {q} e a =
-        let q′ : Place = behind (settled b) taken (getD seam 0 0) in
-        let f : foldl (add ruler counts width spacing) (builtOf (settled b) row) (tail.settled seam) ≡ builtOf q′ (marked row (settled b) q′)
-        = settled-add (settled b) row seam some in
-        let m : joined b row piece ≡ streamOf q′ (marked row (settled b) q′) (drop (taken - b .pending) piece)
-        = ap (streamed (builtOf (settled b) row)) (seam-behind (left b) piece (passes .tail .begins) some-four)
-        ∙ rw (← s .seam-is, long, foldl-append (add ruler counts width spacing) (builtOf (settled b) row) (tail.settled seam), f) in
+        let q′ : Place = behind (settledPlace b) taken (getD seam 0 0) in
+        let f : foldl (add ruler fourCounts width spacing) (builtOf (settledPlace b) row) (tail.firstSettled seam) ≡ builtOf q′ (marked row (settledPlace b) q′)
+        = settled-add (settledPlace b) row seam some in
+        let m : joined b row piece ≡ streamOf q′ (marked row (settledPlace b) q′) (drop (taken - b .pending) piece)
+        = ap (streamed (builtOf (settledPlace b) row)) (seam-behind (left b) piece (passes .tail .begins) some-four)
+        ∙ rw (← s .seam-is, long, foldl-append (add ruler fourCounts width spacing) (builtOf (settledPlace b) row) (tail.firstSettled seam), f) in
         sym (m ∙ rw (a .place-is, a .checkpoints, e))
 
 -- ---- the end: what is pending is one segment
@@ -132,13 +131,13 @@ one-segment x xs p =
     )
 
 module _ (b : Builder) (row : List ℕ) (s : Sound b) (three : length (b .held) ≡ mostPending) where
-  pub end-none : b .pending ≡ 0 → sets row 0 (counts (ruler .zeroth)) ≡ ended b row .row
+  pub end-none : b .pending ≡ 0 → sets row 0 (fourCounts (ruler .zeroth)) ≡ ended b row .row
   end-none z =
       let e : left b ≡ [] = rw z in
       rw (e, cut-nil)
 
   module _ (some : b .pending ≡ 0 → ⊥) where
-    pub end-ahead : (row′ : List ℕ) → length row′ ≡ length row → Granted b 0 row → Ahead (settled b) (b .pending) row′
+    pub end-ahead : (row′ : List ℕ) → length row′ ≡ length row → Granted b 0 row → Ahead (settledPlace b) (b .pending) row′
     end-ahead row′ l g = record {
       fits = settled-fits b s;
       some = omega (arith, some);
@@ -147,8 +146,8 @@ module _ (b : Builder) (row : List ℕ) (s : Sound b) (three : length (b .held) 
       room = omega (arith, s .covers, l, g .room);
     }
 
-    pub end-some : {x : ℕ} {row₀ row′ : List ℕ} {q : Place} → row₀ ≡ sets row 0 (counts (ruler .zeroth)) → x ≡ getD (b .held) 0 0
-        → Advances (settled b) (b .pending) x row₀ row′ q → row′ ≡ ended b row .row
+    pub end-some : {x : ℕ} {row₀ row′ : List ℕ} {q : Place} → row₀ ≡ sets row 0 (fourCounts (ruler .zeroth)) → x ≡ getD (b .held) 0 0
+        → Advances (settledPlace b) (b .pending) x row₀ row′ q → row′ ≡ ended b row .row
     end-some {x} {row₀} {row′} {q} r e a =
         let y : ℕ = getD (b .held) 0 0 in
         let ys : List ℕ = take (b .pending - 1) (drop 1 (b .held)) in
@@ -156,8 +155,8 @@ module _ (b : Builder) (row : List ℕ) (s : Sound b) (three : length (b .held) 
         let o = one-segment y ys (rw t at (s .tail .begins)) in
         let n : size (first reader y ys) ≡ b .pending = o .1 ∙ sym (ap length t) ∙ left-long b s three in
         let f : cut reader (left b) ≡ first reader y ys ∷ [] = ap (cut reader) t ∙ o .0 in
-        let k : ended b row ≡ add ruler counts width spacing (builtOf (settled b) row₀) (first reader y ys) = rw (r, f) in
-        let m : add ruler counts width spacing (builtOf (settled b) row₀) (first reader y ys)
-        ≡ builtOf (behind (settled b) (b .pending) y) (marked row₀ (settled b) (behind (settled b) (b .pending) y))
-        = add-first (settled b) row₀ y ys ∙ ap (λ (j : ℕ). let v : Place = behind (settled b) j y in builtOf v (marked row₀ (settled b) v)) n in
+        let k : ended b row ≡ add ruler fourCounts width spacing (builtOf (settledPlace b) row₀) (first reader y ys) = rw (r, f) in
+        let m : add ruler fourCounts width spacing (builtOf (settledPlace b) row₀) (first reader y ys)
+        ≡ builtOf (behind (settledPlace b) (b .pending) y) (marked row₀ (settledPlace b) (behind (settledPlace b) (b .pending) y))
+        = add-first (settledPlace b) row₀ y ys ∙ ap (λ (j : ℕ). let v : Place = behind (settledPlace b) j y in builtOf v (marked row₀ (settledPlace b) v)) n in
         a .checkpoints ∙ sym (ap (λ (v : Built Place). v .row) (k ∙ m) ∙ rw (← e))

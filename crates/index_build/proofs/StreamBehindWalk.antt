@@ -1,5 +1,4 @@
 -- The walk over the settled segments of a text: the stream behind the text is that behind the rest of it, from the place reached.
--- Assumes nothing.
 use mathlib.Core.Path.{_≡_, refl, sym, ap, subst, _∙_}
 use Prim.Native.Nat.{ℕ, _+_, _-_, _≤_, _<_}
 use mathlib.Core.List.{List, foldl, foldl-append}
@@ -13,48 +12,48 @@ use Rattle.theory.specs.Table.{Kind}
 use Rattle.theory.specs.Index.{Built, add}
 use Rattle.theory.proofs.Divisions.{first-size}
 use Rattle.place.proofs.ReaderDivides.{reader-division, reader-top}
-use Rattle.utf8_pending.specs.Tail.{settled}
+use Rattle.utf8_pending.specs.Tail.{firstSettled}
 use Rattle.utf8_pending.proofs.SettledFirst.{settled-parts, settled-inside, settled-none, settled-some}
 use Rattle.place.specs.Measures.{ruler, longest}
-use Rattle.place.specs.Lookup.{counts}
+use Rattle.place.specs.Lookup.{fourCounts}
 use Rattle.place.specs.declared.Place.{Place}
 use Rattle.index_checkpoint.specs.Checkpoints.{spacing, width}
 use Rattle.index_build.specs.declared.state.Builder.{Builder}
 use Rattle.index_build.specs.Building.{closed}
-use Rattle.index_build.specs.Steps.{marked, behind, Ahead, Advances, builtOf, streamOf, Walks, Walked, keeping, Closes, Stretched}
+use Rattle.index_build.specs.Inside.Steps.{marked, behind, Ahead, Advances, builtOf, streamOf, Walks, Walked, keeping, Closes, Stretched}
 use Rattle.index_build.proofs.CheckpointPassed.{behind-fits, add-first}
 
 -- what parts of a text leave behind
 abbrev pub streamed : Built Place → Parts Kind → State (Built Place)
-streamed m p = record { left = p .left; kept = foldl (add ruler counts width spacing) m (p .done) }
+streamed m p = record { left = p .left; kept = foldl (add ruler fourCounts width spacing) m (p .done) }
 
 -- ---- the settled segment that stands first in a text
 
-pub settled-few : (text : List ℕ) → (total size (settled text) ≡ 0 → ⊥) → total size (settled text) ≤ longest
+pub settled-few : (text : List ℕ) → (total size (firstSettled text) ≡ 0 → ⊥) → total size (firstSettled text) ≤ longest
 settled-few text z =
     let o = settled-some text z in
     omega (arith, o .size-is, first-size reader-division (o .head) (o .tail), reader-top (o .head) (o .tail))
 
-pub settled-add : (p : Place) (row text : List ℕ) → (total size (settled text) ≡ 0 → ⊥)
-    → let q : Place = behind p (total size (settled text)) (getD text 0 0) in
-    foldl (add ruler counts width spacing) (builtOf p row) (settled text) ≡ builtOf q (marked row p q)
+pub settled-add : (p : Place) (row text : List ℕ) → (total size (firstSettled text) ≡ 0 → ⊥)
+    → let q : Place = behind p (total size (firstSettled text)) (getD text 0 0) in
+    foldl (add ruler fourCounts width spacing) (builtOf p row) (firstSettled text) ≡ builtOf q (marked row p q)
 settled-add p row text z =
     let o = settled-some text z in
     let x : o .head ≡ getD text 0 0 = ap (λ (t : List ℕ). getD t 0 0) (sym (o .text-is)) in
-    ap (foldl (add ruler counts width spacing) (builtOf p row)) (o .settled-is)
+    ap (foldl (add ruler fourCounts width spacing) (builtOf p row)) (o .settled-is)
     ∙ add-first p row (o .head) (o .tail)
     ∙ ap (λ (n : ℕ). let q : Place = behind p n (o .head) in builtOf q (marked row p q)) (sym (o .size-is))
-    ∙ ap (λ (h : ℕ). let q : Place = behind p (total size (settled text)) h in builtOf q (marked row p q)) x
+    ∙ ap (λ (h : ℕ). let q : Place = behind p (total size (firstSettled text)) h in builtOf q (marked row p q)) x
 
 -- the stream goes on behind it
-pub stream-next : (p : Place) (row text : List ℕ) → (total size (settled text) ≡ 0 → ⊥)
-    → let q : Place = behind p (total size (settled text)) (getD text 0 0) in
-    streamOf p row text ≡ streamOf q (marked row p q) (drop (total size (settled text)) text)
+pub stream-next : (p : Place) (row text : List ℕ) → (total size (firstSettled text) ≡ 0 → ⊥)
+    → let q : Place = behind p (total size (firstSettled text)) (getD text 0 0) in
+    streamOf p row text ≡ streamOf q (marked row p q) (drop (total size (firstSettled text)) text)
 stream-next p row text z =
     ap (streamed (builtOf p row)) (settled-parts text)
-    ∙ rw (foldl-append (add ruler counts width spacing) (builtOf p row) (settled text), settled-add p row text z)
+    ∙ rw (foldl-append (add ruler fourCounts width spacing) (builtOf p row) (firstSettled text), settled-add p row text z)
 
-pub stream-end : (p : Place) (row text : List ℕ) → total size (settled text) ≡ 0 → streamOf p row text ≡ record { left = text; kept = builtOf p row }
+pub stream-end : (p : Place) (row text : List ℕ) → total size (firstSettled text) ≡ 0 → streamOf p row text ≡ record { left = text; kept = builtOf p row }
 stream-end p row text z = ap (streamed (builtOf p row)) (settled-none text z .1)
 
 -- ---- THE WALK has come to a place
@@ -62,16 +61,6 @@ stream-end p row text z = ap (streamed (builtOf p row)) (settled-none text z .1)
 module _ (text : List ℕ) (from : Place) (row₀ : List ℕ) where
   pub walked-start : Walks from text row₀ → Walked text from row₀ row₀ from 0
   walked-start w = record { inside = omega arith; bytes-are = omega arith; fits = w .fits; long = refl; same = refl }
-
-  -- some segments
-  pub walked-stretched : {row : List ℕ} {p : Place} {at : ℕ} → Walked text from row₀ row p at → (at ≡ 0 → total size (settled text) ≡ 0)
-      → Stretched text from row₀ row p
-  walked-stretched {row} {p} {at} d z =
-      let e : at ≡ p .bytes - from .bytes = omega (arith, d .bytes-are) in
-      record {
-        walked = subst (Walked text from row₀ row p) e d;
-        none = λ b. z (omega (arith, d .bytes-are));
-      }
 
   -- it goes on from the place reached
   pub walked-on : {row row′ : List ℕ} {p q : Place} {at n : ℕ} → Walked text from row₀ row p at → Walked (drop at text) p row row′ q n
@@ -84,6 +73,16 @@ module _ (text : List ℕ) (from : Place) (row₀ : List ℕ) where
     same = d .same ∙ e .same ∙ rw (drop-drop n at text);
   }
 
+  -- some segments
+  pub walked-stretched : {row : List ℕ} {p : Place} {at : ℕ} → Walked text from row₀ row p at → (at ≡ 0 → total size (firstSettled text) ≡ 0)
+      → Stretched text from row₀ row p
+  walked-stretched {row} {p} {at} d z =
+      let e : at ≡ p .bytes - from .bytes = omega (arith, d .bytes-are) in
+      record {
+        walked = subst (Walked text from row₀ row p) e d;
+        none = λ b. z (omega (arith, d .bytes-are));
+      }
+
   -- by some segments
   module _ {row row′ : List ℕ} {p q : Place} {at : ℕ} (d : Walked text from row₀ row p at) (s : Stretched (drop at text) p row row′ q) where
     stretched-is : q .bytes - from .bytes ≡ at + (q .bytes - p .bytes)
@@ -92,7 +91,7 @@ module _ (text : List ℕ) (from : Place) (row₀ : List ℕ) where
     pub stretched-on : Walked text from row₀ row′ q (q .bytes - from .bytes)
     stretched-on = rw stretched-is (walked-on d (s .walked))
 
-    pub stretched-none : q .bytes ≡ p .bytes → Walked text from row₀ row′ q at × (total size (settled (drop at text)) ≡ 0)
+    pub stretched-none : q .bytes ≡ p .bytes → Walked text from row₀ row′ q at × (total size (firstSettled (drop at text)) ≡ 0)
     stretched-none e =
         let k : at + (q .bytes - p .bytes) ≡ at = omega arith in
         (subst (Walked text from row₀ row′ q) k (walked-on d (s .walked)), s .none e)
@@ -110,7 +109,7 @@ module _ (text : List ℕ) (from : Place) (row₀ : List ℕ) where
 
   module _ (w : Walks from text row₀) {row : List ℕ} {p : Place} {at : ℕ} (d : Walked text from row₀ row p at) where
     -- nothing more is settled
-    pub walked-end : (taken : ℕ) (r : Builder) → total size (settled (drop at text)) ≡ 0 → r ≡ keeping (drop at text) p taken
+    pub walked-end : (taken : ℕ) (r : Builder) → total size (firstSettled (drop at text)) ≡ 0 → r ≡ keeping (drop at text) p taken
         → Closes taken (streamOf from row₀ text) row r
     walked-end taken r z e =
         let s : streamOf from row₀ text ≡ record { left = drop at text; kept = builtOf p row } = d .same ∙ stream-end p row (drop at text) z in
@@ -120,9 +119,9 @@ module _ (text : List ℕ) (from : Place) (row₀ : List ℕ) where
         }
 
     -- a segment more
-    module _ (z : total size (settled (drop at text)) ≡ 0 → ⊥) where
+    module _ (z : total size (firstSettled (drop at text)) ≡ 0 → ⊥) where
       abbrev n : ℕ
-      n = total size (settled (drop at text))
+      n = total size (firstSettled (drop at text))
 
       inside-next : at + n ≤ length text
       inside-next = omega (arith, settled-inside (drop at text), length-drop at text, d .inside)

@@ -1,5 +1,4 @@
 -- What a call that builds tells loses nothing: two answers that are told alike are equal.
--- Assumes nothing.
 use mathlib.Core.Path.{_≡_, refl}
 use Prim.Native.Nat.{ℕ}
 use mathlib.Core.Bool.{cond}
@@ -7,17 +6,17 @@ use mathlib.Core.List.{List}
 use lib.ListN.{getD}
 use lib.Dec.{eqb}
 use Rattle.terms.proofs.ToldBack.{by-back, backRefusal, refusal-back, no-zero}
-use Rattle.index_build.specs.State.{building}
+use Rattle.index_build.specs.State.{toldBuilding}
 use Rattle.index_build.specs.declared.state.Building.{Building}
 use Rattle.index_build.specs.declared.state.Building.the-variants.{Done, Refused}
 
 back : List ℕ → Building
 back l = cond (eqb (getD l 0 0) 0) Done (Refused (backRefusal l))
 
-building-back : (a : Building) → back (building a) ≡ a
+building-back : (a : Building) → back (toldBuilding a) ≡ a
 unfolding back
 building-back Done = refl
 building-back (Refused r) = rw (no-zero r, refusal-back r)
 
-pub told-building : (a b : Building) → building a ≡ building b → a ≡ b
-told-building = by-back building back building-back
+pub told-building : (a b : Building) → toldBuilding a ≡ toldBuilding b → a ≡ b
+told-building = by-back toldBuilding back building-back

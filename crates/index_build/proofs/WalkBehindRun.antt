@@ -1,5 +1,4 @@
 -- The walk over a text that begins with a run of whole segments.
--- Assumes nothing.
 use mathlib.Core.Path.{_≡_, sym, ap, _∙_}
 use Prim.Native.Nat.{ℕ, _+_, _-_, _≤_}
 use mathlib.Core.List.{List, []}
@@ -11,24 +10,24 @@ use Rattle.theory.specs.Stream.{State, feed}
 use Rattle.theory.specs.Index.{Built, add}
 use Rattle.theory.proofs.PieceMore.{feed-after, after-nil}
 use Rattle.terms.proofs.ConvertsBack.{whole-none}
-use Rattle.terms.proofs.WalkBySegments.{part-is}
 use Rattle.utf8_check.specs.Run.{wholeRun}
 use Rattle.place.proofs.ReaderDivides.{reader-division}
 use Rattle.utf8_check.proofs.RunDivides.{Run}
 use Rattle.utf8_check.proofs.StandingIsWhole.{run-at}
+use Rattle.terms.proofs.WalkBySegments.{part-is}
 use Rattle.place.specs.Measures.{ruler, reader}
-use Rattle.place.specs.Lookup.{counts}
+use Rattle.place.specs.Lookup.{fourCounts}
 use Rattle.place.specs.declared.Place.{Place}
 use Rattle.index_checkpoint.specs.Checkpoints.{spacing, width}
-use Rattle.index_build.specs.Steps.{builtOf, streamOf, Walks, Walked}
-use Rattle.index_build.specs.Runs.{Runs}
+use Rattle.index_build.specs.Inside.Steps.{builtOf, streamOf, Walks, Walked}
+use Rattle.index_build.specs.Inside.Runs.{Runs}
 use Rattle.index_build.proofs.StreamBehindWalk.{walked-on}
 
 -- what was walked over all of a part, goes on behind it
 walked-part : (rest : List ℕ) (n : ℕ) → n ≤ length rest → {p q : Place} {row row′ : List ℕ}
     → Walked (take n rest) p row row′ q (length (take n rest)) → Walked rest p row row′ q n
 walked-part rest n h {p} {q} {row} {row′} d =
-    let act : Built Place → _ → Built Place = add ruler counts width spacing in
+    let act : Built Place → _ → Built Place = add ruler fourCounts width spacing in
     let l : length (take n rest) ≡ n = length-take-le n rest h in
     let e : streamOf p row (take n rest) ≡ record { left = []; kept = builtOf q row′ } = d .same ∙ rw (drop-length (take n rest)) (after-nil reader-division act (builtOf q row′)) in
     record {

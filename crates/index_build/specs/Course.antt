@@ -1,6 +1,5 @@
 -- A text that one caller feeds to the builder in pieces: the calls one after another, by what they promise, and what they give.
 -- No contract cites these; the theorems about many calls do.
--- Assumes nothing.
 use mathlib.Core.Path.{_≡_}
 use Prim.Native.Nat.{ℕ, _+_}
 use mathlib.Core.Bool.{true}
@@ -10,13 +9,13 @@ use lib.Seq.{sets}
 use Rattle.theory.specs.Reader.{parts}
 use Rattle.theory.specs.Stream.{join}
 use Rattle.theory.specs.Course.{Calls, Course, course}
-use Rattle.theory.specs.Index.{begun, build}
+use Rattle.theory.specs.Index.{startMarked, build}
 use Rattle.terms.specs.Told.{isGranted}
 use Rattle.place.specs.Measures.{ruler, reader}
-use Rattle.place.specs.Lookup.{counts}
+use Rattle.place.specs.Lookup.{fourCounts}
 use Rattle.index_checkpoint.specs.Checkpoints.{spacing, width, needed, indexOf}
 use Rattle.index_lookup.specs.Agreeing.{Indexes, AsPlain}
-use Rattle.index_build.specs.State.{freshBuilder, left, settled, sound, building, buildSays}
+use Rattle.index_build.specs.State.{freshBuilder, left, settledPlace, sound, toldBuilding, buildSays}
 use Rattle.index_build.specs.declared.state.Builder.{Builder}
 use Rattle.index_build.specs.declared.state.Built as the-built
 use Rattle.index_build.specs.Building.{fed, closed, Finishes}
@@ -48,9 +47,9 @@ pub record Holds (row text : List ℕ) (h : Caller) : Type 0 where
   pub tests : sound (h .state) ≡ true
   pub taken : h .state .taken ≡ length text
   pub pending : left (h .state) ≡ parts reader text .left
-  pub place : settled (h .state) ≡ foldl (ruler .step) (ruler .zeroth) (parts reader text .done)
-  pub checkpoints : begun ruler counts width spacing (h .row) .row
-      ≡ build ruler counts width spacing (begun ruler counts width spacing row) (parts reader text .done) .row
+  pub place : settledPlace (h .state) ≡ foldl (ruler .step) (ruler .zeroth) (parts reader text .done)
+  pub checkpoints : startMarked ruler fourCounts width spacing (h .row) .row
+      ≡ build ruler fourCounts width spacing (startMarked ruler fourCounts width spacing row) (parts reader text .done) .row
 
 -- WHAT FINISH THEN GIVES: the row's first numbers are the index of the text, whatever they were before, the later ones are
 -- untouched, and the state is fresh
@@ -65,7 +64,7 @@ abbrev pub BuiltAsWhole : Type 0
 BuiltAsWhole =
     (row : List ℕ) (pieces : List (List ℕ)) (row′ : List ℕ) (q : the-built.Built)
     → let r = fedAll row pieces in
-    Finishes (r .caller .state) (r .caller .row) row′ q → isGranted (building (q .answer)) ≡ true → Ends row (join (r .pieces)) row′ q
+    Finishes (r .caller .state) (r .caller .row) row′ q → isGranted (toldBuilding (q .answer)) ≡ true → Ends row (join (r .pieces)) row′ q
 
 -- THE THIRD DEMAND: an index that is built of a text in any pieces, with refused calls between them, in a buffer that held
 -- anything, and finished, makes each of the four lookups answer as the plain one
@@ -73,4 +72,4 @@ abbrev pub BuiltAsPlain : Type 0
 BuiltAsPlain =
     (row : List ℕ) (pieces : List (List ℕ)) (row′ : List ℕ) (q : the-built.Built)
     → let r = fedAll row pieces in
-    Finishes (r .caller .state) (r .caller .row) row′ q → isGranted (building (q .answer)) ≡ true → AsPlain row′ (join (r .pieces))
+    Finishes (r .caller .state) (r .caller .row) row′ q → isGranted (toldBuilding (q .answer)) ≡ true → AsPlain row′ (join (r .pieces))

@@ -1,5 +1,4 @@
 -- The builder's state: its tests, its last settled place, and what a call answers.
--- Assumes nothing.
 use Prim.Native.Nat.{ℕ, _+_, _-_}
 use mathlib.Core.Bool.{Bool, cond, _&&_}
 use mathlib.Core.List.{List, [], _∷_}
@@ -7,7 +6,7 @@ use lib.ListN.{take}
 use lib.Dec.{leb, ltb}
 use Rattle.terms.specs.Checks.{tested}
 use Rattle.terms.specs.Limits.{limit, unheld}
-use Rattle.terms.specs.Told.{refusal}
+use Rattle.terms.specs.Told.{toldRefusal}
 use Rattle.utf8_pending.specs.Tail.{isTail}
 use Rattle.place.specs.Measures.{place}
 use Rattle.place.specs.declared.Place.{Place}
@@ -23,8 +22,8 @@ freshBuilder = record { held = unheld; pending = 0; taken = 0; units = 0; points
 abbrev pub left : Builder → List ℕ
 left b = take (b .pending) (b .held)
 
-abbrev pub settled : Builder → Place
-settled b = place (b .taken - b .pending) (b .units) (b .points) (b .lines)
+abbrev pub settledPlace : Builder → Place
+settledPlace b = place (b .taken - b .pending) (b .units) (b .points) (b .lines)
 
 -- THE TESTS OF A STATE: at most 3 pending bytes, empty or a proper beginning of a well-formed sequence; unused ones 0; taken
 -- within the limit; pending at most taken; lines ≤ code points ≤ units ≤ taken less pending
@@ -37,9 +36,9 @@ sound b =
     && leb (b .points) (b .units)
     && leb (b .units) (b .taken - b .pending)
 
-abbrev pub building : Building → List ℕ
-building Done = 0 ∷ []
-building (Refused r) = refusal r
+abbrev pub toldBuilding : Building → List ℕ
+toldBuilding Done = 0 ∷ []
+toldBuilding (Refused r) = toldRefusal r
 
 -- ---- A CALL: refusal 8, 2, 3 in this order
 

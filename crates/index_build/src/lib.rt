@@ -1,17 +1,18 @@
 // The builder of an index from a byte text that comes in pieces.
 use place::Place;
+use terms::First;
 ghost use mathlib.Core.Path.{_≡_};
-ghost use Prim.Native.Nat.{_+_, _≤_, _<_};
+ghost use Prim.Native.Nat.{_+_, _≤_};
 ghost use lib.ListN.{length};
-ghost use Rattle.theory.specs.Index.{begun};
+ghost use Rattle.theory.specs.Index.{startMarked};
 ghost use Rattle.place.specs.Measures.{ruler};
-ghost use Rattle.place.specs.Lookup.{counts};
+ghost use Rattle.place.specs.Lookup.{fourCounts};
 ghost use Rattle.index_checkpoint.specs.Checkpoints.{spacing, width};
 ghost use Rattle.index_build.specs.Building.{ended, Feeds, Finishes};
-ghost use Rattle.index_build.specs.Steps.{Ahead, Advances, keeping, Walks, Walked, Seams, Closes, Granted, streamOf, joined, grown};
-ghost use Rattle.index_build.specs.Steps.{Stretches, Stretched};
-ghost use Rattle.index_build.specs.Runs.{Runs};
+ghost use Rattle.index_build.specs.Inside.Steps.{Ahead, Advances, keeping, Walks, Seams, Closes, Granted, streamOf, joined, grown};
+ghost use Rattle.index_build.specs.Inside.Steps.{Stretches, Stretched};
 
+mod run;
 mod state;
 
 pub use state::Builder;
@@ -21,7 +22,7 @@ pub use state::Built;
 // Checkpoint 0, which every call writes: the start of the text.
 fn mark_start(row: &mut [u32])
     requires { ⌜ width ≤ length (now row) ⌝ }
-    ensures { λ r. ⌜ now (row .exit) ≡ begun ruler counts width spacing (now (row .entry)) .row ⌝ }
+    ensures { λ r. ⌜ now (row .exit) ≡ startMarked ruler fourCounts width spacing (now (row .entry)) .row ⌝ }
 {
     index_checkpoint::mark(row, 0, Place::start());
 }
@@ -56,28 +57,6 @@ fn keep(left: &[u8], p: Place, taken: usize) -> Builder
     }
 }
 
-// Whole segments are walked over, from one checkpoint to the next.
-fn pass_run(text: &[u8], from: Place, row: &mut [u32]) -> Place
-    requires { ⌜ Runs from (now text) (now row) ⌝ }
-    ensures { λ r. ⌜ Walked (now (text .entry)) from (now (row .entry)) (now (row .exit)) r (length (now (text .entry))) ⌝ }
-{
-    let mut q = from;
-    let mut at: usize = 0;
-    loop {
-        let end = at + (index_checkpoint::SPACING - q.bytes % index_checkpoint::SPACING);
-        if text.len() < end {
-            return index_count::add_sums(q, &text[at..]);
-        }
-        q = index_count::add_sums(q, &text[at..end]);
-        index_checkpoint::mark(
-            row,
-            q.bytes / index_checkpoint::SPACING,
-            index_count::step_back(text, end, q),
-        );
-        at = end;
-    }
-}
-
 // At most so many settled segments are walked over, one by one.
 fn stretch(text: &[u8], from: Place, most: usize, row: &mut [u32]) -> Place
     requires { ⌜ Stretches from (now text) most (now row) ⌝ }
@@ -98,42 +77,26 @@ fn stretch(text: &[u8], from: Place, most: usize, row: &mut [u32]) -> Place
     p
 }
 
-// So many segments are read one by one behind a run of whole segments, before the next one is tried.
-const WAIT: usize = 8;
-
-// How many are read behind this run: twice as many as before where it was short, so that dense damage is not slowed.
-fn wait_behind(run: usize, wait: usize) -> usize
-    requires { ⌜ 0 < wait ⌝ }
-    ensures { λ r. ⌜ 0 < r ⌝ }
-{
-    if 32 <= run {
-        return WAIT;
-    }
-    if wait < 1024 {
-        return 2 * wait;
-    }
-    wait
-}
-
-// All that is settled of a text is walked over from a place on, and the rest is kept.
+// All that is settled of a text is walked over from a place on, and the rest is kept: runs of whole segments at once, and some
+// segments one by one behind each.
 fn walk(text: &[u8], from: Place, taken: usize, row: &mut [u32]) -> Builder
     requires { ⌜ Walks from (now text) (now row) ⌝ }
     ensures { λ r. ⌜ Closes taken (streamOf from (now (row .entry)) (now (text .entry))) (now (row .exit)) r ⌝ }
 {
     let mut p = from;
     let mut at: usize = 0;
-    let mut wait = WAIT;
+    let mut wait: usize = 1;
     loop {
         let run = utf8_check::whole_run(&text[at..]);
         let end = at + run;
-        p = pass_run(&text[at..end], p, row);
+        p = crate::run::pass_run(&text[at..end], p, row);
         let q = stretch(&text[end..], p, wait, row);
         if q.bytes == p.bytes {
             return keep(&text[end..], q, taken);
         }
         p = q;
         at = q.bytes - from.bytes;
-        wait = wait_behind(run, wait);
+        wait = utf8_check::wait_behind(wait, run);
     }
 }
 
@@ -144,7 +107,7 @@ fn join(seam: &[u8], state: Builder, piece: &[u8], row: &mut [u32]) -> Builder
         (now (row .exit)) r ⌝ }
 {
     let taken = state.taken + piece.len();
-    let p = state.settled();
+    let p = state.settled_place();
     let size = utf8_pending::settled_size(utf8::segment(seam));
     if size == 0 {
         return keep(seam, p, taken);
@@ -178,7 +141,7 @@ fn end(state: Builder, row: &mut [u32])
         return;
     }
     let held = state.held;
-    advance(state.settled(), n, held[0], row);
+    advance(state.settled_place(), n, held[0], row);
 }
 
 // Takes a piece: the checkpoints up to the last place that is settled are written.

@@ -3,7 +3,8 @@ use place::Place;
 use terms::Decoder;
 use terms::Refusal;
 ghost use mathlib.Core.Path.{_≡_};
-ghost use Rattle.index_build.specs.State.{freshBuilder, settled, sound, building, buildSays};
+ghost use Prim.Native.Nat.{_≤_};
+ghost use Rattle.index_build.specs.State.{freshBuilder, settledPlace, sound, toldBuilding, buildSays};
 
 // What the builder keeps between two pieces.
 pub struct Builder {
@@ -32,17 +33,13 @@ impl Builder {
         }
     }
 
-    // The last settled place. Where more is pending than was taken, which no test passes, it has no bytes.
-    pub(crate) fn settled(self) -> Place
-        ensures { λ r. ⌜ r ≡ settled self ⌝ }
+    // The last settled place.
+    pub(crate) fn settled_place(self) -> Place
+        requires { ⌜ self .pending ≤ self .taken ⌝ }
+        ensures { λ r. ⌜ r ≡ settledPlace self ⌝ }
     {
-        let bytes = if self.taken < self.pending {
-            0
-        } else {
-            self.taken - self.pending
-        };
         Place {
-            bytes,
+            bytes: self.taken - self.pending,
             units: self.units,
             points: self.points,
             lines: self.lines,
@@ -87,7 +84,7 @@ fn is_sound(state: Builder) -> bool
 
 // May a state take so many bytes more, with so many numbers in the row?
 pub(crate) fn check(state: Builder, more: usize, room: usize) -> Building
-    ensures { λ r. ⌜ building r ≡ buildSays state more room ⌝ }
+    ensures { λ r. ⌜ toldBuilding r ≡ buildSays state more room ⌝ }
 {
     if !is_sound(state) {
         return Building::Refused(Refusal::BadState);

@@ -1,5 +1,4 @@
 -- Halving, where the middle is reached without a sum that could overflow.
--- Assumes nothing.
 use mathlib.Core.Path.{_≡_, ap, _∙_}
 use Prim.Native.Nat.{ℕ, _+_, _-_, _/_, _<_}
 use mathlib.Core.Bool.{Bool, true, false}

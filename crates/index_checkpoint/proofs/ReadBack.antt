@@ -1,5 +1,4 @@
 -- Entries of an index: how a checkpoint is read.
--- Assumes nothing.
 use mathlib.Core.Path.{_≡_, sym, ap, _∙_}
 use Prim.Native.Nat.{ℕ, _+_, _*_, _/_, _<_}
 use native.Mathlib.Nat.{add-zero}

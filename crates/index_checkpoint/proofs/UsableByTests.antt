@@ -1,5 +1,4 @@
 -- Whether a checkpoint is usable: the tests, by the first multiple of the spacing at or behind its byte.
--- Assumes nothing.
 use mathlib.Core.Path.{_≡_}
 use Prim.Native.Nat.{ℕ, _+_, _-_, _*_, _/_, _%_, _≤_, _<_}
 use mathlib.Core.Bool.{false, _&&_, and-false}

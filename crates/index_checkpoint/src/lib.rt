@@ -1,4 +1,4 @@
-// Checkpoints of an index: reading one, the choice among them by halving, and whether one is usable.
+// Checkpoints of an index: reading and writing one, the choice among them by halving, and whether one is usable.
 use place::Offset;
 use place::Place;
 ghost use mathlib.Core.Path.{_≡_};
@@ -16,9 +16,9 @@ pub use marking::pass;
 
 // A checkpoint stands at each multiple of so many bytes.
 pub const SPACING: usize = 256;
-// The numbers that it takes in the index: its four counts.
-pub const WIDTH: usize = 4;
-// The most bytes of a segment.
+// It is so many numbers of the index: its bytes, units, code points and lines.
+const WIDTH: usize = 4;
+// No segment has more bytes, so that a checkpoint lies fewer than these before its multiple.
 const LONGEST: usize = 4;
 
 // How many checkpoints a text of so many bytes has.

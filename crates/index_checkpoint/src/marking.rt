@@ -25,7 +25,8 @@ pub fn mark(row: &mut [u32], k: usize, p: Place)
     row[at + 3] = entry(p.lines);
 }
 
-// The first checkpoint above p, if it is not above q: where q is one segment behind p there is no other.
+// The first checkpoint above p, if it is not above q: q where q lies at its byte, else p. Where q is one segment behind p there
+// is no other.
 pub fn pass(p: Place, q: Place, row: &mut [u32])
     ensures { λ r. ⌜ now (row .exit) ≡ markedOnce (now (row .entry)) p q ⌝ }
 {

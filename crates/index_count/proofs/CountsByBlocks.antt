@@ -1,5 +1,4 @@
 -- The three counts over parts of a text: byte by byte, block by block, and where it is filled up with later bytes.
--- Assumes nothing.
 use mathlib.Core.Path.{_≡_, refl, ap, _∙_}
 use Prim.Native.Nat.{ℕ, zero, suc, _+_, _≤_, _<_}
 use native.Mathlib.Nat.{zero-add, add-zero}
@@ -12,14 +11,14 @@ use native.Mathlib.Omega.{arith}
 use Rattle.theory.specs.Tally.{total}
 use Rattle.theory.proofs.Cases.{split}
 use Rattle.theory.proofs.Divisions.{total-append}
-use Rattle.utf8_scan.specs.Stands.{later}
+use Rattle.utf8_scan.specs.Stands.{isLater}
 use Rattle.index_count.specs.Counts.{startOf, fourOf, endOf, sumsOf}
-use Rattle.index_count.specs.declared.sums.Sums.{Sums}
+use Rattle.index_count.specs.declared.Sums.{Sums}
 
 -- ---- a byte counts one or nothing, so that a text counts no more than its length
 
 pub start-few : (x : ℕ) → startOf x ≤ 1
-start-few x = split (later x) (λ e. rw e (omega arith)) (λ e. rw e (omega arith))
+start-few x = split (isLater x) (λ e. rw e (omega arith)) (λ e. rw e (omega arith))
 
 pub four-few : (x : ℕ) → fourOf x ≤ 1
 four-few x = split (leb 0xF0 x) (λ e. rw e (omega arith)) (λ e. rw e (omega arith))

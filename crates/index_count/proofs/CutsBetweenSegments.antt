@@ -1,5 +1,4 @@
 -- A text of whole segments may be cut before any byte that is no later byte: both parts are whole segments.
--- Assumes nothing.
 use mathlib.Core.Path.{_≡_, refl, sym, ap, _∙_}
 use Prim.Native.Nat.{ℕ, zero, suc, _+_, _-_, _≤_, _<_}
 use mathlib.Core.Bool.{true, false, true≢false}
@@ -11,14 +10,14 @@ use Rattle.theory.specs.Reader.{first, rest, cut}
 use Rattle.theory.proofs.Cases.{split, under}
 use Rattle.theory.proofs.Divisions.{cut-nil, cut-cons, by-segments}
 use Rattle.terms.proofs.ConvertsBack.{AllWhole}
-use Rattle.utf8_scan.specs.Stands.{later}
+use Rattle.utf8_scan.specs.Stands.{isLater}
 use Rattle.utf8.specs.Bytes.{bytes}
 use Rattle.utf8.proofs.RowsOfBytes.{bytes-division}
 use Rattle.index_count.specs.Counts.{startOf}
-use Rattle.index_count.specs.Edges.{Edge}
+use Rattle.index_count.specs.Inside.Edges.{Edge}
 use Rattle.index_count.proofs.SumsOfSegments.{Laters, formed-first, cut-first}
 
-all-at : (ys : List ℕ) → Laters ys → (i : ℕ) → i < length ys → later (getD ys i 0) ≡ true
+all-at : (ys : List ℕ) → Laters ys → (i : ℕ) → i < length ys → isLater (getD ys i 0) ≡ true
 all-at [] a i h = absurd (omega arith)
 all-at (y ∷ ys) a zero h = a .0
 all-at (y ∷ ys) a (suc i) h = all-at ys (a .1) i (omega arith)
@@ -35,14 +34,14 @@ module _ (x : ℕ) (xs : List ℕ) (w : AllWhole (cut bytes (x ∷ xs))) where
   wholes = rw (cut-cons bytes x xs) at w
 
   -- inside the first segment there are later bytes
-  no-edge : (n : ℕ) → n < more → later (getD xs n 0) ≡ true
+  no-edge : (n : ℕ) → n < more → isLater (getD xs n 0) ≡ true
   no-edge n h =
       let l : length (take more xs) ≡ more = length-take-le more xs (bytes-division .fits x xs) in
-      sym (ap (λ (y : ℕ). later y) (getD-take more xs n 0 h)) ∙ all-at (take more xs) (formed-first x xs (wholes .0) .1) n (omega arith)
+      sym (ap (λ (y : ℕ). isLater y) (getD-take more xs n 0 h)) ∙ all-at (take more xs) (formed-first x xs (wholes .0) .1) n (omega arith)
 
   -- before it there is none
-  pub first-edge : later x ≡ false
-  first-edge = split (later x)
+  pub first-edge : isLater x ≡ false
+  first-edge = split (isLater x)
       (λ e. let z : startOf x ≡ 0 = rw e in absurd (omega (arith, z, formed-first x xs (wholes .0) .0 .0)))
       (λ e. e)
 

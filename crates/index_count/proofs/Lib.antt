@@ -1,6 +1,6 @@
-pub mod CountsAdd
-pub mod BoundaryBefore
-pub mod BackToBoundary
+-- The three counts over parts of a text: byte by byte, block by block, and where it is filled up with later bytes
 pub mod CountsByBlocks
+-- THE LAW OF THE SUMS: where all segments of a byte text are whole, its counts are those of its segments
 pub mod SumsOfSegments
+-- A text of whole segments may be cut before any byte that is no later byte: both parts are whole segments
 pub mod CutsBetweenSegments

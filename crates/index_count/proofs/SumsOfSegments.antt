@@ -1,5 +1,4 @@
 -- THE LAW OF THE SUMS: where all segments of a byte text are whole, its counts are those of its segments.
--- Assumes nothing.
 use mathlib.Core.Path.{_≡_, refl, sym, ap, _∙_}
 use Prim.Native.Nat.{ℕ, suc, _+_, _≤_, _<_}
 use mathlib.Core.Bool.{true, cond}
@@ -17,7 +16,7 @@ use Rattle.theory.proofs.Cases.{All, split, both}
 use Rattle.theory.proofs.Divisions.{total-append, cut-nil, cut-cons, by-segments}
 use Rattle.theory.proofs.SequencesAreWhole.{by-rows, whole-sequence, cut-sequence}
 use Rattle.terms.proofs.ConvertsBack.{AllWhole}
-use Rattle.utf8_scan.specs.Stands.{later}
+use Rattle.utf8_scan.specs.Stands.{isLater}
 use Rattle.utf8.specs.Bytes.{rows, bytes}
 use Rattle.utf8.proofs.RowsOfBytes.{rows-sound, bytes-division}
 use Rattle.index_count.specs.Counts.{startOf, fourOf, endOf}
@@ -37,11 +36,11 @@ first-mid x l h = rw (le-leb 0x80 x (omega arith), le-ltb x 0xC0 l, lt-leb 0xF0 
 first-high : (x : ℕ) → 0xF0 ≤ x → (startOf x ≡ 1) × (fourOf x ≡ 1)
 first-high x l = rw (le-leb 0x80 x (omega arith), le-ltb x 0xC0 (omega arith), le-leb 0xF0 x l) (refl, refl)
 
-is-later : (y : ℕ) → (0x80 ≤ y) × (y ≤ 0xBF) → later y ≡ true
+is-later : (y : ℕ) → (0x80 ≤ y) × (y ≤ 0xBF) → isLater y ≡ true
 is-later y b = rw (le-leb 0x80 y (b .0), lt-ltb y 0xC0 (omega arith))
 
 abbrev pub Laters : List ℕ → Type 0
-Laters = All (λ y. later y ≡ true)
+Laters = All (λ y. isLater y ≡ true)
 
 -- of a sequence
 abbrev pub Formed : List ℕ → Type 0
@@ -62,7 +61,7 @@ formed = by-rows rows Formed
     (λ x a y b z d t e. (first-high x (omega arith), (is-later y (omega arith), (is-later z d, (is-later t e, tt)))))
 
 -- a later byte counts nothing
-later-none : (y : ℕ) → later y ≡ true → (startOf y ≡ 0) × (fourOf y ≡ 0) × (endOf y ≡ 0)
+later-none : (y : ℕ) → isLater y ≡ true → (startOf y ≡ 0) × (fourOf y ≡ 0) × (endOf y ≡ 0)
 later-none y e =
     let b = both (leb 0x80 y) (ltb y 0xC0) e in
     let l : 0x80 ≤ y = leb-true 0x80 y (b .0) in

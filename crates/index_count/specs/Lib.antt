@@ -1,3 +1,4 @@
-pub mod Summed
+-- What each byte of a text counts by itself
 pub mod Counts
-pub mod Edges
+-- What private steps promise each other
+pub mod Inside

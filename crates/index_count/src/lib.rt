@@ -1,81 +1,107 @@
-// The counts behind and before some bytes of a text, by their sums.
-use place::Place;
+// Three counts over a byte text, a block of 128 at a time: bytes that are no later bytes, bytes of 0xF0 or
+// more, and line ends.
 ghost use mathlib.Core.Path.{_≡_};
-ghost use Prim.Native.Nat.{_+_, _-_, _<_};
-ghost use lib.ListN.{length};
-ghost use Rattle.index_count.specs.Counts.{fourOf};
-ghost use Rattle.place.specs.Walk.{wrapped};
-ghost use Rattle.index_count.specs.Summed.{summed, boundary, back};
+ghost use Prim.Native.Nat.{_≤_};
+ghost use lib.ListN.{length, take};
+ghost use Rattle.index_count.specs.Counts.{startOf, fourOf, endOf, sumsOf};
 
-mod sums;
+// How many bytes are no later bytes, how many are 0xF0 or more, and how many are 0x0A.
+pub struct Sums {
+    pub starts: usize,
+    pub fours: usize,
+    pub ends: usize,
+}
 
-// The counts behind some bytes of whole segments, modulo 2^64.
-pub fn add_sums(p: Place, text: &[u8]) -> Place
-    ensures { λ r. ⌜ r ≡ wrapped (summed p (now (text .entry))) ⌝ }
+fn start_of(b: u8) -> u8
+    ensures { λ r. ⌜ r ≡ startOf b ⌝ }
 {
-    let s = crate::sums::count(text);
-    let units = std::num::wrapping_add_usize(p.units, s.starts);
-    Place {
-        bytes: std::num::wrapping_add_usize(p.bytes, text.len()),
-        units: std::num::wrapping_add_usize(units, s.fours),
-        points: std::num::wrapping_add_usize(p.points, s.starts),
-        lines: std::num::wrapping_add_usize(p.lines, s.ends),
+    if b < 0x80 {
+        return 1;
     }
-}
-
-// The last byte at or before n that is no later byte.
-fn boundary(text: &[u8], n: usize) -> usize
-    requires { ⌜ n < length (now text) ⌝ }
-    ensures { λ r. ⌜ r ≡ boundary (now (text .entry)) n ⌝ }
-{
-    let mut b = n;
-    while 0 < b {
-        let x = text[b];
-        if x < 0x80 {
-            return b;
-        }
-        if 0xC0 <= x {
-            return b;
-        }
-        b -= 1;
-    }
-    b
-}
-
-// The units of a segment that begins with this byte.
-fn units_from(head: u8) -> usize
-    ensures { λ r. ⌜ r ≡ 1 + fourOf head ⌝ }
-{
-    if 0xF0 <= head { 2 } else { 1 }
-}
-
-// So many fewer, and never below 0.
-fn less(n: usize, fewer: usize) -> usize
-    ensures { λ r. ⌜ r ≡ n - fewer ⌝ }
-{
-    if n < fewer {
+    if b < 0xC0 {
         return 0;
     }
-    n - fewer
+    1
 }
 
-// The place at the last boundary at or before byte n of whole segments, where q has the counts as far as that byte. The end of
-// the text is a boundary, and no count goes below 0.
-pub fn step_back(text: &[u8], n: usize, q: Place) -> Place
-    ensures { λ r. ⌜ r ≡ back (now (text .entry)) n q ⌝ }
+fn four_of(b: u8) -> u8
+    ensures { λ r. ⌜ r ≡ fourOf b ⌝ }
 {
-    if text.len() <= n {
-        return q;
+    if 0xF0 <= b { 1 } else { 0 }
+}
+
+fn end_of(b: u8) -> u8
+    ensures { λ r. ⌜ r ≡ endOf b ⌝ }
+{
+    if b == 0x0A { 1 } else { 0 }
+}
+
+fn wide(n: u8) -> usize
+    ensures { λ r. ⌜ r ≡ n ⌝ }
+{
+    n as usize
+}
+
+// The first 128 bytes.
+fn block(text: &[u8]) -> Sums
+    requires { ⌜ 128 ≤ length (now text) ⌝ }
+    ensures { λ r. ⌜ r ≡ sumsOf (take 128 (now (text .entry))) ⌝ }
+{
+    let mut starts: u8 = 0;
+    let mut fours: u8 = 0;
+    let mut ends: u8 = 0;
+    for k in 0..128 {
+        starts += start_of(text[k]);
+        fours += four_of(text[k]);
+        ends += end_of(text[k]);
     }
-    let b = boundary(text, n);
-    if b == n {
-        return q;
+    Sums {
+        starts: wide(starts),
+        fours: wide(fours),
+        ends: wide(ends),
     }
-    let head = text[b];
-    Place {
-        bytes: less(q.bytes, n - b),
-        units: less(q.units, units_from(head)),
-        points: less(q.points, 1),
-        lines: less(q.lines, place::lines_of(head)),
+}
+
+// Fewer bytes than a block: they are counted in one that is filled up with later bytes, which count nothing.
+fn rest(text: &[u8]) -> Sums
+    requires { ⌜ length (now text) ≤ 128 ⌝ }
+    ensures { λ r. ⌜ r ≡ sumsOf (now (text .entry)) ⌝ }
+{
+    let mut row = [0x80u8; 128];
+    let mut i: usize = 0;
+    while i < text.len() {
+        row[i] = text[i];
+        i += 1;
+    }
+    block(&row)
+}
+
+// The three counts of a text.
+pub fn count(text: &[u8]) -> Sums
+    ensures { λ r. ⌜ r ≡ sumsOf (now (text .entry)) ⌝ }
+{
+    let mut starts: usize = 0;
+    let mut fours: usize = 0;
+    let mut ends: usize = 0;
+    let mut at: usize = 0;
+    while 128 <= text.len() - at {
+        let s = block(&text[at..]);
+        starts += s.starts;
+        fours += s.fours;
+        ends += s.ends;
+        at += 128;
+    }
+    if at == text.len() {
+        return Sums {
+            starts,
+            fours,
+            ends,
+        };
+    }
+    let s = rest(&text[at..]);
+    Sums {
+        starts: starts + s.starts,
+        fours: fours + s.fours,
+        ends: ends + s.ends,
     }
 }

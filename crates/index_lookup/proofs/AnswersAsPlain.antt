@@ -1,5 +1,4 @@
 -- A row that begins with a text's index: lookup in it answers as plain lookup.
--- Assumes nothing.
 use mathlib.Core.Path.{_≡_, refl, ap, _∙_}
 use Prim.Native.Nat.{ℕ, _≤_}
 use mathlib.Core.Bool.{true}
@@ -17,7 +16,7 @@ use Rattle.theory.proofs.BuiltIsTrue.{row-true}
 use Rattle.terms.specs.Limits.{limit}
 use Rattle.place.proofs.ReaderDivides.{reader-division, reader-top}
 use Rattle.place.specs.Measures.{ruler, reader, longest}
-use Rattle.place.specs.Lookup.{counts, foundSays, lookupSays}
+use Rattle.place.specs.Lookup.{fourCounts, foundSays, lookupSays}
 use Rattle.place.specs.Walk.{fair}
 use Rattle.place.specs.declared.Place.{Place}
 use Rattle.place.proofs.MeasuresRise.{measured, ordered, Rising, units-rise, points-rise, lines-never-fall}
@@ -35,13 +34,13 @@ fair-place text h {q} b =
 
 module _ (row text : List ℕ) (e : Indexes row text) where
   long : length (indexOf text) ≡ needed (length text)
-  long = rw (written-fixed counts width (λ p. refl), tab-length)
+  long = rw (written-fixed fourCounts width (λ p. refl), tab-length)
 
   room : needed (length text) ≤ length row
   room = omega (arith, length-take (needed (length text)) row, ap length e, long)
 
   pub good : True reader ruler spacing (checkpoint row) text
-  good = row-true measured counts width spacing (omega arith) (λ p. refl) placeOf (λ p. refl) reader row text e
+  good = row-true measured fourCounts width spacing (omega arith) (λ p. refl) placeOf (λ p. refl) reader row text e
 
   fine : length text ≤ limit → (most : ℕ) → fair (mark reader ruler most text) ≡ true
   fine h most = fair-place text h (mark-place reader ruler text most)

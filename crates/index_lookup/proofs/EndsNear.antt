@@ -1,6 +1,5 @@
 -- A lookup in a text's index ends near its start: from the checkpoint chosen to the place found are fewer bytes than the
 -- spacing and one segment have.
--- Assumes nothing.
 use mathlib.Core.Path.{_≡_}
 use Prim.Native.Nat.{ℕ, _+_, _/_, _≤_, _<_}
 use native.Mathlib.Nat.{le-of-lt}

@@ -1,5 +1,4 @@
 -- Lookup from a checkpoint on: what the walk from it tells, and the refusals before.
--- Assumes nothing.
 use mathlib.Core.Path.{_≡_, refl, sym, ap, _∙_}
 use Prim.Native.Nat.{ℕ, _+_, _-_, _*_, _/_, _≤_, _<_}
 use mathlib.Core.Logic.{inl}
@@ -23,7 +22,7 @@ use Rattle.place.specs.declared.Offset.{Offset}
 use Rattle.index_checkpoint.specs.Checkpoints.{spacing, needed, checkpoint}
 use Rattle.index_checkpoint.specs.Choosing.{less, passes, halved}
 use Rattle.index_lookup.specs.Looking.{indexed, byteSays, halvingSays}
-use Rattle.index_lookup.specs.Resuming.{Among, fromSays}
+use Rattle.index_lookup.specs.Inside.Resuming.{Among, fromSays}
 
 -- ---- the walk from a usable checkpoint, which is handed `&text[at..]`
 

@@ -1,5 +1,4 @@
 -- A row that is a text's index, and lookup by it that answers as plain lookup.
--- Assumes nothing.
 use mathlib.Core.Path.{_≡_}
 use Prim.Native.Nat.{ℕ}
 use mathlib.Core.List.{List}

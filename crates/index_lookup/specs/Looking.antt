@@ -1,5 +1,4 @@
 -- Lookup in an index, whatever its numbers are.
--- Assumes nothing.
 use Prim.Native.Nat.{ℕ}
 use mathlib.Core.Bool.{Bool, cond}
 use mathlib.Core.List.{List, [], _∷_}

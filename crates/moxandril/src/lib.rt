@@ -13,7 +13,7 @@ pub use terms::Written;
 // Texts of UTF-8 bytes.
 pub mod bytes {
     pub use convert_from_utf8::repair_to_units;
-    pub use convert_from_utf8::to_codes;
+    pub use convert_from_utf8::to_points;
     pub use convert_from_utf8::to_units;
     pub use utf8::point;
     pub use utf8::segment;
@@ -26,7 +26,7 @@ pub mod units {
     pub use convert_from_utf16::repair;
     pub use convert_from_utf16::repair_to_bytes;
     pub use convert_from_utf16::to_bytes;
-    pub use convert_from_utf16::to_codes;
+    pub use convert_from_utf16::to_points;
     pub use utf16::point;
     pub use utf16::segment;
     pub use utf16_check::check;
@@ -43,9 +43,9 @@ pub mod points {
 
 // Repair of a byte text that comes in pieces, with a list of its damages; and the recorder's watch, byte by byte.
 pub mod pieces {
-    pub use decoder::Begun;
     pub use decoder::Fed;
     pub use decoder::Finished;
+    pub use decoder::Opening;
     pub use decoder::Started;
     pub use decoder::Total;
     pub use decoder::feed;

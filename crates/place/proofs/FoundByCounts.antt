@@ -1,5 +1,4 @@
 -- The paper's sentences on lookup, about what the calls tell: places are found by their counts, and the answers undo each other.
--- Assumes nothing.
 use mathlib.Core.Path.{_≡_, ap}
 use Prim.Native.Nat.{ℕ, _≤_, _<_}
 use mathlib.Core.List.{List, [], _∷_}
@@ -13,16 +12,16 @@ use Rattle.theory.proofs.Cases.{split}
 use Rattle.theory.proofs.PlacesFound.{lookup-place, found-rise, found-mono, PlaceOf, plain-place}
 use Rattle.terms.specs.Limits.{limit}
 use Rattle.place.specs.Measures.{ruler, reader}
-use Rattle.place.specs.Lookup.{counts, foundSays, lookupSays}
+use Rattle.place.specs.Lookup.{fourCounts, foundSays, lookupSays}
 use Rattle.place.specs.declared.Place.{Place}
 use Rattle.place.proofs.ToldBack.{told-counts}
 use Rattle.place.proofs.MeasuresRise.{Rising, bytes-rise, units-rise, points-rise, lines-never-fall}
 
 -- lookup by a measure tells a place
 abbrev pub Finds : (Place → ℕ) → ℕ → List ℕ → Place → Type 0
-Finds m o text q = lookupSays m o text ≡ 0 ∷ counts q
+Finds m o text q = lookupSays m o text ≡ 0 ∷ fourCounts q
 
-says-at : (f : Found Place) (q : Place) → foundSays f ≡ 0 ∷ counts q → f ≡ at q
+says-at : (f : Found Place) (q : Place) → foundSays f ≡ 0 ∷ fourCounts q → f ≡ at q
 says-at (at p) q e = ap at (told-counts p q (cc))
 says-at inside q e = let z : _≡_ {A = ℕ} 0 1 = cc in absurd (omega arith)
 says-at past q e = let z : _≡_ {A = ℕ} 0 1 = cc in absurd (omega arith)
@@ -35,7 +34,7 @@ module _ (m : Place → ℕ) (o : ℕ) (text : List ℕ) (q : Place) where
 
   pub of-finds : Finds m o text q → (length text ≤ limit) × (plain reader ruler m o text ≡ at q)
   of-finds f = split (ltb limit (length text))
-      (λ e. let g : 2 ∷ [] ≡ 0 ∷ counts q = rw e at f in let z : _≡_ {A = ℕ} 0 1 = cc in absurd (omega arith))
+      (λ e. let g : 2 ∷ [] ≡ 0 ∷ fourCounts q = rw e at f in let z : _≡_ {A = ℕ} 0 1 = cc in absurd (omega arith))
       (λ e. (ltb-false limit (length text) e, says-at (plain reader ruler m o text) q (rw e at f)))
 
   -- what is found is a place of the text

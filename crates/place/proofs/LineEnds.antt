@@ -1,5 +1,4 @@
--- A line ends after each byte 0A and nowhere else: the lines of a place are the bytes 0A before it.
--- Assumes nothing.
+-- A line ends after each byte 0x0A and nowhere else: the lines of a place are the bytes 0x0A before it.
 use mathlib.Core.Path.{_≡_, refl, sym, ap, _∙_}
 use mathlib.Core.Logic.{⊎-elim}
 use Prim.Native.Nat.{ℕ, zero, suc, _+_, _≤_}
@@ -23,11 +22,11 @@ use Rattle.place.specs.Walk.{linesByHead}
 use Rattle.place.specs.declared.Place.{Place}
 use Rattle.place.proofs.MeasuresRise.{measured, places-keep}
 
--- how many bytes 0A there are
+-- how many bytes 0x0A there are
 abbrev pub newlines : List ℕ → ℕ
 newlines = total linesByHead
 
--- ---- behind the first byte of a segment there are only bytes of 80 or more
+-- ---- behind the first byte of a segment there are only bytes of 0x80 or more
 
 abbrev High : List ℕ → Type 0
 High = All (λ y. 0x80 ≤ y)
@@ -63,7 +62,7 @@ segment-high x xs = of-kind (bytes x xs .tag) (bytes x xs .more) (bytes-read .st
         (λ o. let z : more ≡ zero = omega (arith, o .0) in rw z tt)
         (s .part)
 
--- ---- so that a segment has a byte 0A only if it begins with it
+-- ---- so that a segment has a byte 0x0A only if it begins with it
 
 high-none : (ys : List ℕ) → High ys → newlines ys ≡ 0
 high-none [] h = refl
@@ -72,7 +71,7 @@ high-none (y ∷ ys) h = rw (ne-eqb y 0x0A (omega arith), high-none ys (h .1))
 newlines-split : (n : ℕ) (text : List ℕ) → newlines text ≡ newlines (take n text) + newlines (drop n text)
 newlines-split n text = ap newlines (sym (take-append-drop n text)) ∙ total-append linesByHead (take n text) (drop n text)
 
--- THE LINES OF A PLACE: with the bytes 0A of the rest they make those of the text, all the way
+-- THE LINES OF A PLACE: with the bytes 0x0A of the rest they make those of the text, all the way
 pub lines-are : (text : List ℕ) {q : Place} → PlaceOf bytes ruler text q → q .lines ≡ newlines (take (q .bytes) text)
 lines-are text {q} b = omega (arith, newlines-split (q .bytes) text, places-keep reader-division measured Counted keep text b (omega arith))
   where

@@ -1,5 +1,4 @@
 -- What is cut is the longest beginning that ends at a boundary and stays within the maximum.
--- Assumes nothing.
 use mathlib.Core.Path.{_≡_, refl, ap, _∙_}
 use Prim.Native.Nat.{ℕ, _≤_}
 use native.Mathlib.Nat.{le-refl}

@@ -1,5 +1,4 @@
 -- The four measures: which of them rise, the units of a segment by its size, and the order of a place's counts.
--- Assumes nothing.
 use mathlib.Core.Path.{_≡_, refl}
 use mathlib.Core.Logic.{_⊎_, inl, inr}
 use Prim.Native.Nat.{ℕ, _≤_, _<_}
@@ -78,7 +77,7 @@ lines-never-fall p s = omega arith
 
 -- ---- the units of a segment of a byte text, by its size
 
--- a sequence stands for 10000 or more exactly if it has four bytes
+-- a sequence stands for U+10000 or more exactly if it has four bytes
 abbrev ByLength : List ℕ → Type 0
 ByLength ys = ((number ys < 0x10000) × (length ys < 4)) ⊎ ((0x10000 ≤ number ys) × (length ys ≡ 4))
 

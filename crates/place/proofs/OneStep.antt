@@ -1,5 +1,4 @@
 -- One step of a walk: the place behind the segment that the reader told.
--- Assumes nothing.
 use mathlib.Core.Path.{_≡_, refl, ap, _∙_}
 use Prim.Native.Nat.{ℕ, suc, _+_, _-_, _%_, _^_, _≤_, _<_}
 use mathlib.Core.List.{List, [], _∷_}
@@ -26,13 +25,13 @@ pub stepped-end : (p : Place) (rest : List ℕ) → length rest ≡ 0 → p ≡ 
 stepped-end p [] h = refl
 stepped-end p (x ∷ xs) h = absurd (omega arith)
 
-told-size : (r : First) (l : Look Kind) → told.first r ≡ told.lookSays l → told.sizeOf r ≡ suc (l .more)
+told-size : (r : First) (l : Look Kind) → told.toldFirst r ≡ told.lookSays l → told.sizeOf r ≡ suc (l .more)
 told-size Nothing l e = let z : _≡_ {A = ℕ} 0 1 = cc in absurd (omega arith)
 told-size (Whole n) l e = cc
 told-size (Damage n) l e = cc
 told-size (Begun n) l e = cc
 
-pub added : (p : Place) (rest : List ℕ) → 0 < length rest → (r : First) → told.first r ≡ told.firstSays reader rest → (n : ℕ) → n ≡ told.sizeOf r
+pub added : (p : Place) (rest : List ℕ) → 0 < length rest → (r : First) → told.toldFirst r ≡ told.firstSays reader rest → (n : ℕ) → n ≡ told.sizeOf r
     → wrapped (place (p .bytes + n) (p .units + unitsBySize n) (p .points + 1) (p .lines + linesByHead (getD rest 0 0))) ≡ stepped p rest
 added p [] h r e n i = absurd (omega arith)
 added p (x ∷ xs) h r e n i =

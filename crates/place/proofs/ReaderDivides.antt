@@ -1,5 +1,4 @@
 -- The reader by which places are counted is a division, holds little back, and its segments are short.
--- Assumes nothing.
 use Prim.Native.Nat.{ℕ, _<_}
 use mathlib.Core.List.{List}
 use native.Mathlib.Omega.{arith}

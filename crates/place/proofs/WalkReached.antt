@@ -1,5 +1,4 @@
 -- What a walk over the places of a text has reached, and the refusals before it.
--- Assumes nothing.
 use mathlib.Core.Path.{_≡_, refl, ap, _∙_}
 use Prim.Native.Nat.{ℕ, _+_, _^_, _≤_, _<_}
 use mathlib.Core.Bool.{true, false, _&&_}

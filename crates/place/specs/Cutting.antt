@@ -1,5 +1,4 @@
 -- Cutting: the longest beginning of a text that ends at a boundary and stays within a maximum.
--- Assumes nothing.
 use Prim.Native.Nat.{ℕ}
 use mathlib.Core.List.{List}
 use lib.ListN.{take}

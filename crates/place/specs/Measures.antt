@@ -1,5 +1,4 @@
 -- The four measures of a byte text: bytes, UTF-16 units, code points and lines.
--- Assumes nothing.
 use Prim.Native.Nat.{ℕ, _+_}
 use mathlib.Core.Bool.{cond}
 use lib.Dec.{ltb, eqb}
@@ -20,11 +19,11 @@ reader = bytes
 abbrev pub longest : ℕ
 longest = 4
 
--- a code point is two units exactly if it is 10000 or more; damage is one unit, as U+FFFD is
+-- a code point is two units exactly if it is U+10000 or more; damage is one unit, as U+FFFD is
 abbrev pub unitsOf : Segment Kind → ℕ
 unitsOf s = cond (ltb (pointOf utf8 s) 0x10000) 1 2
 
--- a line ends after each byte 0A and nowhere else
+-- a line ends after each byte 0x0A and nowhere else
 abbrev pub linesOf : Segment Kind → ℕ
 linesOf s = cond (eqb (s .head) 0x0A) 1 0
 

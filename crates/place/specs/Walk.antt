@@ -1,5 +1,4 @@
 -- A walk over the places of a text: the offset that it goes to, one step of it, and what is found from a place on.
--- Assumes nothing.
 use Prim.Native.Nat.{ℕ, _+_, _%_, _<_, _^_}
 use mathlib.Core.Bool.{Bool, cond, _&&_}
 use mathlib.Core.List.{List, [], _∷_}
@@ -9,7 +8,7 @@ use Rattle.theory.specs.Reader.{first, cut}
 use Rattle.theory.specs.Place.{lookup, last}
 use Rattle.terms.specs.Limits.{limit}
 use Rattle.place.specs.Measures.{place, ruler, reader}
-use Rattle.place.specs.Lookup.{counts, foundSays}
+use Rattle.place.specs.Lookup.{fourCounts, foundSays}
 use Rattle.place.specs.declared.Place.{Place}
 use Rattle.place.specs.declared.Offset.{Offset}
 use Rattle.place.specs.declared.Offset.the-variants.{Byte, Unit, Point, Line}
@@ -76,4 +75,4 @@ abbrev pub resumeSays : (Place → ℕ) → ℕ → Place → List ℕ → List 
 resumeSays measure offset from rest = going from rest (walkSays measure offset from rest)
 
 abbrev pub lastSays : (Place → ℕ) → ℕ → Place → List ℕ → List ℕ
-lastSays measure most from rest = going from rest (0 ∷ counts (reached measure most from rest))
+lastSays measure most from rest = going from rest (0 ∷ fourCounts (reached measure most from rest))

@@ -99,7 +99,7 @@ pub fn units_of(size: usize) -> usize
     if size == 4 { 2 } else { 1 }
 }
 
-// A line ends after each byte 0A.
+// A line ends after each byte 0x0A.
 pub fn lines_of(head: u8) -> usize
     ensures { λ r. ⌜ r ≡ linesByHead head ⌝ }
 {

@@ -1,5 +1,4 @@
 -- The last place that counts at most so much, by any measure, from the place that a walk has reached.
--- Assumes nothing.
 use mathlib.Core.Path.{_≡_, sym, _∙_}
 use Prim.Native.Nat.{ℕ, _+_, _≤_, _<_}
 use mathlib.Core.List.{List}

@@ -8,7 +8,7 @@ use place::Units;
 use terms::Refusal;
 ghost use mathlib.Core.Path.{_≡_};
 ghost use Rattle.place.specs.Cutting.{beginning};
-ghost use Rattle.place.specs.Lookup.{placed};
+ghost use Rattle.place.specs.Lookup.{toldPlaced};
 ghost use Rattle.place.specs.Walk.{number, measure, Roomy, reached, lastSays};
 
 // The last place that counts at most so much, from a place on; the text is given from there.
@@ -31,7 +31,7 @@ fn reach(text: &[u8], from: Place, most: Offset) -> Place
 
 // The last place that counts at most so much from any place on: refusal 2 and 8 before the walk.
 pub fn last(text: &[u8], from: Place, most: Offset) -> Placed
-    ensures { λ r. ⌜ placed r ≡ lastSays (measure most) (number most) from (now (text .entry)) ⌝ }
+    ensures { λ r. ⌜ toldPlaced r ≡ lastSays (measure most) (number most) from (now (text .entry)) ⌝ }
 {
     if from.over(text.len()) {
         return Placed::Refused(Refusal::OverLimit);
@@ -50,19 +50,21 @@ fn cut(text: &[u8], most: Offset) -> &[u8]
     &text[..end.bytes]
 }
 
-// The longest beginning that ends at a boundary and has at most so many bytes, units or code points.
+// The longest beginning that ends at a boundary and has at most so many bytes.
 pub fn cut_bytes(text: &[u8], most: Bytes) -> &[u8]
     ensures { λ r. ⌜ now r ≡ beginning (λ p. p .bytes) (most .0) (now (text .entry)) ⌝ }
 {
     cut(text, Offset::Byte(most))
 }
 
+// The longest beginning that ends at a boundary and has at most so many units.
 pub fn cut_units(text: &[u8], most: Units) -> &[u8]
     ensures { λ r. ⌜ now r ≡ beginning (λ p. p .units) (most .0) (now (text .entry)) ⌝ }
 {
     cut(text, Offset::Unit(most))
 }
 
+// The longest beginning that ends at a boundary and has at most so many code points.
 pub fn cut_points(text: &[u8], most: Points) -> &[u8]
     ensures { λ r. ⌜ now r ≡ beginning (λ p. p .points) (most .0) (now (text .entry)) ⌝ }
 {

@@ -1,5 +1,4 @@
 -- The answers of lookup, by any measure, at the place that a walk has reached.
--- Assumes nothing.
 use mathlib.Core.Path.{_≡_}
 use Prim.Native.Nat.{ℕ, _+_, _≤_, _<_}
 use mathlib.Core.List.{List, [], _∷_}
@@ -13,7 +12,7 @@ use Rattle.theory.specs.Place.{here, lookup}
 use Rattle.theory.proofs.Divisions.{cut-nil}
 use Rattle.terms.specs.Limits.{limit}
 use Rattle.place.specs.Measures.{ruler, reader}
-use Rattle.place.specs.Lookup.{counts, lookupSays}
+use Rattle.place.specs.Lookup.{fourCounts, lookupSays}
 use Rattle.place.specs.Walk.{walkSays}
 use Rattle.place.specs.declared.Place.{Place}
 use Rattle.place.proofs.OneStep.{Taken}
@@ -36,7 +35,7 @@ module _ (m : Place → ℕ) (o : ℕ) {from : Place} {text : List ℕ} {at : �
   stops h [] = rw (le-ltb (m p) o h)
   stops h (s ∷ ss) = rw (le-ltb (m p) o h)
 
-  pub seeks-at : m p ≡ o → 0 ∷ counts p ≡ walkSays m o from text
+  pub seeks-at : m p ≡ o → 0 ∷ fourCounts p ≡ walkSays m o from text
   seeks-at e = rw (r .same, stops (omega arith), eq-eqb (m p) o e)
 
   pub seeks-inside : o < m p → 5 ∷ [] ≡ walkSays m o from text

@@ -9,7 +9,7 @@ ghost use mathlib.Core.Path.{_≡_};
 ghost use Prim.Native.Nat.{_≤_};
 ghost use lib.ListN.{length};
 ghost use Rattle.decoder.specs.Room.{mostFed};
-ghost use Rattle.report.specs.Going.{Goes};
+ghost use Rattle.report.specs.Inside.Going.{Goes};
 
 // How the input stands: there may be more, or it ended in one way or another.
 pub enum End {

@@ -1,5 +1,4 @@
 -- What writing calls answer: each way through their checks meets the promise.
--- Assumes nothing.
 use mathlib.Core.Path.{_≡_, sym, ap, subst, _∙_}
 use Prim.Native.Nat.{ℕ, _≤_, _<_}
 use mathlib.Core.Bool.{true≢false}
@@ -13,7 +12,7 @@ use Rattle.theory.proofs.Cases.{split}
 use Rattle.terms.specs.Form.{Form, converted}
 use Rattle.terms.specs.Limits.{limit}
 use Rattle.terms.specs.Strict.{damages, strictly, limited}
-use Rattle.terms.specs.Told.{refusal, checked, written}
+use Rattle.terms.specs.Told.{toldRefusal, toldChecked, toldWritten}
 use Rattle.terms.specs.Writing.{roomed, Writes, repairSays, convertSays}
 use Rattle.terms.specs.declared.Refusal.{Refusal}
 use Rattle.terms.specs.declared.Refusal.the-variants.{OverLimit, NoRoom}
@@ -25,7 +24,7 @@ use Rattle.terms.proofs.ToldBack.{no-zero}
 use Rattle.terms.proofs.ConvertsBack.{limited-granted, roomed-granted, Refuses, strictly-granted}
 
 -- a refusal leaves the output as it was
-pub refuses : (says form out : List ℕ) (r : Refusal) → refusal r ≡ says → Writes says form out out (Refused r)
+pub refuses : (says form out : List ℕ) (r : Refusal) → toldRefusal r ≡ says → Writes says form out out (Refused r)
 refuses says form out r e = record { answer = e; output = rw (← e, no-zero r) }
 
 -- ---- a writer that refuses where the output has too few places
@@ -61,11 +60,18 @@ module _ (text form out : List ℕ) where
         let says : repairSays (length out) text form ≡ 0 ∷ length form ∷ [] = rw (le-ltb limit (length text) h, le-ltb (length out) (length form) k) in
         record { answer = rw (says, e); output = rw (says, o) }
 
+-- of a text within the limit, repair answers as the writer does
+pub repair-roomed : (text form out out′ : List ℕ) (r : Written) → length text ≤ limit → Writes (roomed (length out) form) form out out′ r
+    → Writes (repairSays (length out) text form) form out out′ r
+repair-roomed text form out out′ r h w =
+    let same : roomed (length out) form ≡ repairSays (length out) text form = rw (le-ltb limit (length text) h) in
+    subst (λ (says : List ℕ). Writes says form out out′ r) same w
+
 -- what was written is the form, and lies within the output
 pub repair-count : (text form out out′ : List ℕ) (r : Written) → Writes (repairSays (length out) text form) form out out′ r → (n : ℕ) → r ≡ Count n
     → (n ≡ length form) × (n ≤ length out)
 repair-count text form out out′ r w n e =
-    let l = limited-granted text (roomed (length out) form) (sym (w .answer) ∙ ap written e) in
+    let l = limited-granted text (roomed (length out) form) (sym (w .answer) ∙ ap toldWritten e) in
     let k : length form ≤ length out = roomed-granted (length out) form (l .1) in
     let s : roomed (length out) form ≡ 0 ∷ length form ∷ [] = rw (le-ltb (length out) (length form) k) in
     let m : n ≡ length form = cc (l .1) in
@@ -78,23 +84,23 @@ module _ (refuse : Entry Kind → List ℕ) (F G : Form) (text out : List ℕ) w
   checking = limited text (strictly refuse (damages (F .look) text) (0 ∷ []))
 
   -- a refusal of the check does not depend on what would be granted
-  same-refusal : (ds : List (Entry Kind)) (granted : List ℕ) (r : Refusal) → refusal r ≡ limited text (strictly refuse ds (0 ∷ []))
-      → refusal r ≡ limited text (strictly refuse ds granted)
+  same-refusal : (ds : List (Entry Kind)) (granted : List ℕ) (r : Refusal) → toldRefusal r ≡ limited text (strictly refuse ds (0 ∷ []))
+      → toldRefusal r ≡ limited text (strictly refuse ds granted)
   same-refusal ds granted r e = split (ltb limit (length text))
       (λ t. rw t (rw t at e))
       (λ t. rw t (go ds (rw t at e)))
     where
-      go : (ds : List (Entry Kind)) → refusal r ≡ strictly refuse ds (0 ∷ []) → refusal r ≡ strictly refuse ds granted
+      go : (ds : List (Entry Kind)) → toldRefusal r ≡ strictly refuse ds (0 ∷ []) → toldRefusal r ≡ strictly refuse ds granted
       go [] q = absurd (true≢false (sym (ap (λ (l : List ℕ). eqb (getD l 0 0) 0) q) ∙ no-zero r))
       go (d ∷ ds) q = q
 
-  pub strict-refused : (r : Refusal) → checked (the-checked.Refused r) ≡ checking
+  pub strict-refused : (r : Refusal) → toldChecked (the-checked.Refused r) ≡ checking
       → Writes (convertSays refuse F G (length out) text) (converted F G text) out out (Refused r)
   strict-refused r e =
       refuses (convertSays refuse F G (length out) text) (converted F G text) out r
       (same-refusal (damages (F .look) text) (roomed (length out) (converted F G text)) r e)
 
-  pub strict-granted : Refuses refuse → checked WellFormed ≡ checking → (out′ : List ℕ) (r : Written)
+  pub strict-granted : Refuses refuse → toldChecked WellFormed ≡ checking → (out′ : List ℕ) (r : Written)
       → Writes (repairSays (length out) text (converted F G text)) (converted F G text) out out′ r
       → Writes (convertSays refuse F G (length out) text) (converted F G text) out out′ r
   strict-granted n e out′ r w =
@@ -102,3 +108,12 @@ module _ (refuse : Entry Kind → List ℕ) (F G : Form) (text out : List ℕ) w
       let d = strictly-granted refuse n (damages (F .look) text) (0 ∷ []) (l .1) in
       let same : repairSays (length out) text (converted F G text) ≡ convertSays refuse F G (length out) text = rw (d .0) in
       subst (λ (says : List ℕ). Writes says (converted F G text) out out′ r) same w
+
+  -- what the check accepts is within the limit, so that the answer is the writer's
+  pub accepted-within : toldChecked WellFormed ≡ checking → length text ≤ limit
+  accepted-within e = limited-granted text (strictly refuse (damages (F .look) text) (0 ∷ [])) (sym e) .0
+
+  pub strict-roomed : Refuses refuse → toldChecked WellFormed ≡ checking → (out′ : List ℕ) (r : Written)
+      → Writes (roomed (length out) (converted F G text)) (converted F G text) out out′ r
+      → Writes (convertSays refuse F G (length out) text) (converted F G text) out out′ r
+  strict-roomed n e out′ r w = strict-granted n e out′ r (repair-roomed text (converted F G text) out out′ r (accepted-within e) w)

@@ -1,5 +1,4 @@
 -- The laws of conversion and repair, over any faithful forms: what is written divides as it was meant, and comes back.
--- Assumes nothing.
 use mathlib.Core.Path.{_≡_, refl, sym, ap, ap₂, _∙_}
 use mathlib.Core.Logic.{_↔_}
 use Prim.Native.Nat.{ℕ, _≤_}

@@ -1,5 +1,4 @@
 -- A text that is copied to the start of an output, element by element.
--- Assumes nothing.
 use mathlib.Core.Path.{_≡_, _∙_}
 use Prim.Native.Nat.{ℕ, _+_, _≤_, _<_}
 use native.Mathlib.Nat.{zero-add}

@@ -1,5 +1,4 @@
 -- What makes a form faithful: what is encoded is read as itself and decoded to the same number, and the other way round.
--- Assumes nothing.
 use mathlib.Core.Path.{_≡_, refl, subst}
 use mathlib.Core.Logic.{_⊎_, inl, inr, ⊎-elim}
 use Prim.Native.Nat.{ℕ, zero, _<_}

@@ -1,5 +1,4 @@
 -- Two answers that the promise of a call that writes allows are equal, and they leave the same; so are two code points told alike.
--- Assumes nothing.
 use mathlib.Core.Path.{_≡_, refl, sym, _∙_}
 use Prim.Native.Nat.{ℕ}
 use mathlib.Core.List.{List, [], _∷_}

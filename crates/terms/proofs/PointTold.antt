@@ -1,5 +1,4 @@
 -- The code point that stands first in a text, from what the segment reader told of the text, over any form.
--- Assumes nothing.
 use mathlib.Core.Path.{_≡_, refl, sym, ap, _∙_}
 use Prim.Native.Nat.{ℕ, zero, suc, _+_, _≤_, _<_}
 use mathlib.Core.Bool.{Bool, true, false, cond}
@@ -10,7 +9,7 @@ use native.Mathlib.Omega.{arith}
 use Rattle.theory.specs.Table.{Kind, whole, damage, isDamage}
 use Rattle.theory.proofs.Divisions.{Division, first-size}
 use Rattle.terms.specs.Form.{Form, replacement, pointSays}
-use Rattle.terms.specs.Told.{first, firstSays}
+use Rattle.terms.specs.Told.{toldFirst, firstSays}
 use Rattle.terms.specs.declared.First.{First}
 use Rattle.terms.specs.declared.First.the-variants.{Nothing, Whole, Damage, Begun}
 use Rattle.terms.proofs.WalkBySegments.{nothing-seen, Seen, seen}
@@ -48,9 +47,9 @@ module _ (F : Form) (D : Division (F .look)) (text : List ℕ) where
       → cond (isDamage kind) replacement (F .value (take n text)) ∷ n ∷ [] ≡ pointSays F text
   point-of n kind sure s = rw (s .text-is, s .long-is, s .kind-is, first-size D (s .head) (s .tail))
 
-  module _ (r : First) (told : first r ≡ firstSays (F .look) text) where
-    told-as : (q : First) → r ≡ q → first q ≡ firstSays (F .look) text
-    told-as q e = ap first (sym e) ∙ told
+  module _ (r : First) (told : toldFirst r ≡ firstSays (F .look) text) where
+    told-as : (q : First) → r ≡ q → toldFirst q ≡ firstSays (F .look) text
+    told-as q e = ap toldFirst (sym e) ∙ told
 
     pub point-nothing : r ≡ Nothing → 0 ∷ 0 ∷ [] ≡ pointSays F text
     point-nothing e = rw (nothing-seen (F .look) text (told-as Nothing e))

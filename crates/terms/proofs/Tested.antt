@@ -1,5 +1,4 @@
 -- The checks before every call: each way through them, and that what is granted has passed them.
--- Assumes nothing.
 use mathlib.Core.Path.{_≡_, sym}
 use Prim.Native.Nat.{ℕ, _+_, _≤_, _<_}
 use mathlib.Core.Bool.{Bool, true, false, true≢false}

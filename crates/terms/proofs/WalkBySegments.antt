@@ -1,5 +1,4 @@
 -- A walk over a text's segments: what the segment reader told at a place, and the strict check's way, over any division.
--- Assumes nothing.
 use mathlib.Core.Path.{_≡_, refl, sym, ap, _∙_}
 use Prim.Native.Nat.{ℕ, suc, _+_, _-_, _≤_, _<_}
 use mathlib.Core.Bool.{Bool, true, false}
@@ -16,7 +15,7 @@ use Rattle.theory.specs.Tally.{total, size, Entry, entries}
 use Rattle.theory.proofs.Divisions.{Division, first-size, cut-nil, cut-cons, cut-size}
 use Rattle.theory.proofs.Cases.{split}
 use Rattle.terms.specs.Limits.{limit}
-use Rattle.terms.specs.Told.{first, sizeOf, bit, lookSays, firstSays}
+use Rattle.terms.specs.Told.{toldFirst, sizeOf, bit, lookSays, firstSays}
 use Rattle.terms.specs.Strict.{damages, strictly, damaged, limited, checkSays}
 use Rattle.terms.specs.declared.First.{First}
 use Rattle.terms.specs.declared.First.the-variants.{Nothing, Whole, Damage, Begun}
@@ -99,9 +98,9 @@ module _ {look : Reader Kind} (D : Division look) (text : List ℕ) (at : ℕ) w
       }
 
   -- what the reader told of `&text[at..]`
-  module _ (h : at ≤ length text) (r : First) (told : first r ≡ firstSays look (take (length text - at) (drop at text))) where
-    told-as : (q : First) → r ≡ q → first q ≡ firstSays look (drop at text)
-    told-as q e = ap first (sym e) ∙ rw part-is at told
+  module _ (h : at ≤ length text) (r : First) (told : toldFirst r ≡ firstSays look (take (length text - at) (drop at text))) where
+    told-as : (q : First) → r ≡ q → toldFirst q ≡ firstSays look (drop at text)
+    told-as q e = ap toldFirst (sym e) ∙ rw part-is at told
 
     pub turn-whole : (n : ℕ) → r ≡ Whole n → Turn look text at n whole
     turn-whole n e = turn-of n whole true h (seen look (drop at text) n whole true (told-as (Whole n) e))

@@ -1,5 +1,4 @@
 -- The walk that writes, whatever is written: what it has counted and written when it has come to a place of the text.
--- Assumes nothing.
 use mathlib.Core.Path.{_≡_, refl, sym, ap, subst, _∙_}
 use Prim.Native.Nat.{ℕ, suc, _+_, _-_, _≤_, _<_}
 use mathlib.Core.Bool.{true}

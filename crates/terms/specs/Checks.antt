@@ -1,5 +1,4 @@
 -- The checks before every call of a state that takes a text in pieces.
--- Assumes nothing.
 use Prim.Native.Nat.{ℕ, _+_}
 use mathlib.Core.Bool.{Bool, cond}
 use mathlib.Core.List.{List, [], _∷_}

@@ -1,5 +1,4 @@
 -- Scalar values, and the forms in which a text of them is kept.
--- Assumes nothing.
 use Prim.Native.Nat.{ℕ}
 use mathlib.Core.Bool.{Bool, cond, _&&_, _||_}
 use mathlib.Core.List.{List, [], _∷_}
@@ -8,7 +7,7 @@ use Rattle.theory.specs.Reader.{Reader, Segment, body, first, cut}
 use Rattle.theory.specs.Table.{Kind, isDamage}
 use Rattle.theory.specs.Tally.{written, size}
 
--- 0 to D7FF, or E000 to 10FFFF
+-- 0 to 0xD7FF, or 0xE000 to U+10FFFF
 abbrev pub isScalar : ℕ → Bool
 isScalar c = ltb c 0xD800 || ltb 0xDFFF c && ltb c 0x110000
 

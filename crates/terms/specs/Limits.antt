@@ -1,5 +1,4 @@
 -- The limits and the fresh state, which belong to the decoder.
--- Assumes nothing.
 use Prim.Native.Nat.{ℕ}
 use mathlib.Core.List.{List, [], _∷_}
 use Rattle.terms.specs.declared.Decoder.{Decoder}

@@ -1,5 +1,4 @@
 -- Strict reading: the first damage is refused.
--- Assumes nothing.
 use Prim.Native.Nat.{ℕ}
 use mathlib.Core.Bool.{cond}
 use mathlib.Core.List.{List, [], _∷_}

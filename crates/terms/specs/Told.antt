@@ -1,5 +1,4 @@
 -- What each answer tells, in the paper's numbers: the refusal's number and its values, or 0 and the values of what was granted.
--- Assumes nothing.
 use Prim.Native.Nat.{ℕ, suc}
 use mathlib.Core.Bool.{Bool, cond}
 use mathlib.Core.List.{List, [], _∷_}
@@ -17,23 +16,23 @@ use Rattle.terms.specs.declared.Written.{Written}
 use Rattle.terms.specs.declared.Written.the-variants as the-written
 
 -- THE TABLE OF REFUSALS
-abbrev pub refusal : Refusal → List ℕ
-refusal (Damaged start length) = 1 ∷ start ∷ length ∷ []
-refusal OverLimit = 2 ∷ []
-refusal (NoRoom needed) = 3 ∷ needed ∷ []
-refusal PastEnd = 4 ∷ []
-refusal Inside = 5 ∷ []
-refusal (Unusable checkpoint) = 6 ∷ checkpoint ∷ []
-refusal ListRoom = 7 ∷ []
-refusal BadState = 8 ∷ []
-refusal (NoScalar position) = 9 ∷ position ∷ []
+abbrev pub toldRefusal : Refusal → List ℕ
+toldRefusal (Damaged start length) = 1 ∷ start ∷ length ∷ []
+toldRefusal OverLimit = 2 ∷ []
+toldRefusal (NoRoom needed) = 3 ∷ needed ∷ []
+toldRefusal PastEnd = 4 ∷ []
+toldRefusal Inside = 5 ∷ []
+toldRefusal (Unusable checkpoint) = 6 ∷ checkpoint ∷ []
+toldRefusal ListRoom = 7 ∷ []
+toldRefusal BadState = 8 ∷ []
+toldRefusal (NoScalar position) = 9 ∷ position ∷ []
 
 -- what stands first: 0 for whole and 1 for damage, the number of elements, and 1 if that is sure, whatever follows
-abbrev pub first : First → List ℕ
-first Nothing = []
-first (Whole n) = 0 ∷ n ∷ 1 ∷ []
-first (Damage n) = 1 ∷ n ∷ 1 ∷ []
-first (Begun n) = 1 ∷ n ∷ 0 ∷ []
+abbrev pub toldFirst : First → List ℕ
+toldFirst Nothing = []
+toldFirst (Whole n) = 0 ∷ n ∷ 1 ∷ []
+toldFirst (Damage n) = 1 ∷ n ∷ 1 ∷ []
+toldFirst (Begun n) = 1 ∷ n ∷ 0 ∷ []
 
 -- how many elements it has
 abbrev pub sizeOf : First → ℕ
@@ -42,13 +41,13 @@ sizeOf (Whole n) = n
 sizeOf (Damage n) = n
 sizeOf (Begun n) = n
 
-abbrev pub checked : Checked → List ℕ
-checked the-checked.WellFormed = 0 ∷ []
-checked (the-checked.Refused r) = refusal r
+abbrev pub toldChecked : Checked → List ℕ
+toldChecked the-checked.WellFormed = 0 ∷ []
+toldChecked (the-checked.Refused r) = toldRefusal r
 
-abbrev pub written : Written → List ℕ
-written (the-written.Count n) = 0 ∷ n ∷ []
-written (the-written.Refused r) = refusal r
+abbrev pub toldWritten : Written → List ℕ
+toldWritten (the-written.Count n) = 0 ∷ n ∷ []
+toldWritten (the-written.Refused r) = toldRefusal r
 
 -- a test as a number
 abbrev pub bit : Bool → ℕ

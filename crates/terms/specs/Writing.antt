@@ -1,5 +1,4 @@
 -- Calls that write a form of a text into a lent output: what they answer, and what the output then holds.
--- Assumes nothing.
 use mathlib.Core.Path.{_≡_}
 use Prim.Native.Nat.{ℕ}
 use mathlib.Core.Bool.{cond}
@@ -10,7 +9,7 @@ use Rattle.theory.specs.Tally.{Entry}
 use Rattle.theory.specs.Table.{Kind}
 use Rattle.terms.specs.Form.{Form, converted}
 use Rattle.terms.specs.Strict.{damages, strictly, limited}
-use Rattle.terms.specs.Told.{written, ifGranted}
+use Rattle.terms.specs.Told.{toldWritten, ifGranted}
 use Rattle.terms.specs.declared.Written.{Written}
 
 -- refusal 3 with the need, the length of the form, where the output has fewer places; or how many were written
@@ -23,7 +22,7 @@ outputOf says form out = ifGranted says (form ++ drop (length form) out) out
 
 -- what a writing call promises: its answer, and the output
 pub record Writes (says form out out′ : List ℕ) (r : Written) : Type 0 where
-  pub answer : written r ≡ says
+  pub answer : toldWritten r ≡ says
   pub output : out′ ≡ outputOf says form out
 
 -- REPAIR: refusal 2, then 3

@@ -3,7 +3,7 @@ ghost use mathlib.Core.Path.{_≡_};
 ghost use mathlib.Core.List.{[], _∷_};
 ghost use lib.ListN.{getD};
 ghost use Rattle.terms.specs.Limits.{freshOf};
-ghost use Rattle.terms.specs.Told.{sizeOf, refusal, checked};
+ghost use Rattle.terms.specs.Told.{sizeOf, toldRefusal, toldChecked};
 
 // The decoder of a byte text that comes in pieces: what it keeps between two pieces. The limits belong to it.
 #[repr(C)]
@@ -92,9 +92,9 @@ pub enum Refusal {
 }
 
 impl Refusal {
-    // Its number, and the values that it tells: 0 where it tells none.
+    // Its number, 1 to 9.
     pub fn number(self) -> usize
-        ensures { λ r. ⌜ r ≡ getD (refusal self) 0 0 ⌝ }
+        ensures { λ r. ⌜ r ≡ getD (toldRefusal self) 0 0 ⌝ }
     {
         match self {
             Refusal::Damaged {
@@ -112,8 +112,9 @@ impl Refusal {
         }
     }
 
-    pub fn first(self) -> usize
-        ensures { λ r. ⌜ r ≡ getD (refusal self) 1 0 ⌝ }
+    // The first value that it tells, 0 where it tells none.
+    pub fn first_value(self) -> usize
+        ensures { λ r. ⌜ r ≡ getD (toldRefusal self) 1 0 ⌝ }
     {
         match self {
             Refusal::Damaged { start, length: _ } => start,
@@ -128,8 +129,9 @@ impl Refusal {
         }
     }
 
-    pub fn second(self) -> usize
-        ensures { λ r. ⌜ r ≡ getD (refusal self) 2 0 ⌝ }
+    // The second value that it tells, 0 where it tells none.
+    pub fn second_value(self) -> usize
+        ensures { λ r. ⌜ r ≡ getD (toldRefusal self) 2 0 ⌝ }
     {
         match self {
             Refusal::Damaged { start: _, length } => length,
@@ -154,7 +156,7 @@ pub enum Checked {
 impl Checked {
     // Refusal 1 with the first damage.
     pub fn damaged(start: usize, length: usize) -> Checked
-        ensures { λ r. ⌜ checked r ≡ 1 ∷ start ∷ length ∷ [] ⌝ }
+        ensures { λ r. ⌜ toldChecked r ≡ 1 ∷ start ∷ length ∷ [] ⌝ }
     {
         Checked::Refused(Refusal::Damaged { start, length })
     }

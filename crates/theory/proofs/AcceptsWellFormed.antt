@@ -1,5 +1,4 @@
 -- That a text has no damage exactly if it is well-formed sequences one behind another, for any table whose rows do not meet.
--- Assumes nothing.
 use mathlib.Core.Path.{_≡_, refl, sym, ap}
 use mathlib.Core.Logic.{_↔_}
 use Prim.Native.Nat.{ℕ, zero}

@@ -1,13 +1,12 @@
 -- THE LAW OF CALLS: what every granted call keeps holds after any calls, with refused ones between them; and calls that feed a
 -- stream leave the one of the joined text.
--- Assumes nothing.
 use mathlib.Core.Path.{_≡_, ap, _∙_}
 use Prim.Native.Nat.{ℕ}
 use mathlib.Core.Bool.{true}
 use mathlib.Core.List.{List, [], _∷_, _++_, append-assoc, append-nil, foldl, foldl-append}
 use Rattle.theory.specs.Reader.{Reader, Segment, cut}
 use Rattle.theory.specs.Stream.{join, State, fresh, after, feed, finish}
-use Rattle.theory.specs.Course.{Calls, Course, begun, called, course}
+use Rattle.theory.specs.Course.{Calls, Course, uncalled, called, course}
 use Rattle.theory.proofs.Cases.{split}
 use Rattle.theory.proofs.Divisions.{Division, cut-parts}
 use Rattle.theory.proofs.PieceMore.{feed-after, after-nil}
@@ -34,7 +33,7 @@ module _ {H C : Type 0} (calls : Calls H C) (Keeps : List ℕ → H → Type 0) 
     keeps-on r (c ∷ cs) k = keeps-on (called calls r c) cs (called-keeps r c k)
 
     pub course-keeps : (h : H) → Keeps [] h → (cs : List C) → Keeps (join (course calls h cs .pieces)) (course calls h cs .caller)
-    course-keeps h k cs = keeps-on (begun h) cs k
+    course-keeps h k cs = keeps-on (uncalled h) cs k
 
 -- ---- calls that feed a stream, of which what the caller has is the state
 

@@ -1,5 +1,4 @@
 -- The laws of the index builder: two calls are one, the cutting does not matter, and what is built is a true index.
--- Assumes nothing.
 use mathlib.Core.Path.{_≡_, sym, ap, ap₂, _∙_}
 use Prim.Native.Nat.{ℕ, zero, _+_, _-_, _*_, _/_, _≤_, _<_, suc-le-suc}
 use native.Mathlib.Nat.{zero-add, zero-div, suc-sub-suc, sub-zero, mul-zero, mul-one, mul-suc, mul-add, le-of-lt}
@@ -11,7 +10,7 @@ use Rattle.theory.specs.Reader.{Reader, Segment, cut, parts}
 use Rattle.theory.specs.Stream.{State, finish}
 use Rattle.theory.specs.Tally.{written}
 use Rattle.theory.specs.Place.{Ruler, last, mark}
-use Rattle.theory.specs.Index.{tab, entry, marks, index, Built, due, build, add, begun}
+use Rattle.theory.specs.Index.{tab, numbersAt, marks, index, Built, due, build, add, startMarked}
 use Rattle.theory.proofs.Divisions.{Division, written-append, cut-size}
 use Rattle.theory.proofs.AnyCalls.{Follows, follows-end}
 use Rattle.theory.proofs.TalliesAdd.{sets-append}
@@ -77,7 +76,7 @@ module _ {K P : Type 0} {R : Ruler K P} (M : Measured R) (enc : P → List ℕ) 
 
   -- and a whole text's segments write its index
   built-is : (look : Reader K) (row xs : List ℕ)
-      → build R enc width spacing (begun R enc width spacing row) (cut look xs) .row ≡ sets row zero (written enc (index look R spacing xs))
+      → build R enc width spacing (startMarked R enc width spacing row) (cut look xs) .row ≡ sets row zero (written enc (index look R spacing xs))
   built-is look row xs =
       rw (
         bytes-foldl M (R .zeroth) (cut look xs),
@@ -98,26 +97,26 @@ module _ {K P : Type 0} {R : Ruler K P} (M : Measured R) (enc : P → List ℕ) 
   -- THE CUTTING DOES NOT MATTER: what follows a text is built of it, however it came; and at the end the row holds its index,
   -- whatever it held before, and the rest of the row is as it was
   module _ {look : Reader K} (D : Division look) (row text : List ℕ) (s : State (Built P))
-      (f : Follows D (add R enc width spacing) (begun R enc width spacing row) (λ (s : State (Built P)). s) text s) where
-    pub built-so-far : s .kept ≡ build R enc width spacing (begun R enc width spacing row) (parts look text .done)
-    built-so-far = ap (λ (s : State (Built P)). s .kept) f ∙ build-foldl (begun R enc width spacing row) (parts look text .done)
+      (f : Follows D (add R enc width spacing) (startMarked R enc width spacing row) (λ (s : State (Built P)). s) text s) where
+    pub built-so-far : s .kept ≡ build R enc width spacing (startMarked R enc width spacing row) (parts look text .done)
+    built-so-far = ap (λ (s : State (Built P)). s .kept) f ∙ build-foldl (startMarked R enc width spacing row) (parts look text .done)
 
     pub built-at-end : finish look (add R enc width spacing) s .row ≡ sets row zero (written enc (index look R spacing text))
     built-at-end =
         ap (λ (t : Built P). t .row)
-        (follows-end D (add R enc width spacing) (begun R enc width spacing row) (λ (s : State (Built P)). s) text s f
-        ∙ build-foldl (begun R enc width spacing row) (cut look text))
+        (follows-end D (add R enc width spacing) (startMarked R enc width spacing row) (λ (s : State (Built P)). s) text s f
+        ∙ build-foldl (startMarked R enc width spacing row) (cut look text))
         ∙ built-is look row text
 
   -- ---- A ROW THAT STARTS WITH THE INDEX IS A TRUE INDEX, where what is written can be read back
 
   module _ (dec : List ℕ → P) (back : (p : P) → dec (enc p) ≡ p) where
     pub row-true : (look : Reader K) (row xs : List ℕ) → take (width * marks spacing (length xs)) row ≡ written enc (index look R spacing xs)
-        → True look R spacing (entry width dec row) xs
+        → True look R spacing (numbersAt width dec row) xs
     row-true look row xs e k h =
         let n : ℕ = marks spacing (length xs) in
         let f : ℕ → P = λ k. mark look R (spacing * k) xs in
         let w : row ≡ written enc (index look R spacing xs) ++ drop (width * n) row = rw (← e) (sym (take-append-drop (width * n) row)) in
-        ap (λ (r : List ℕ). entry width dec r k) w
+        ap (λ (r : List ℕ). numbersAt width dec r k) w
         ∙ ap dec (written-at enc width fixed k zero n f (drop (width * n) row) (suc-le-suc (div-up spacing pos (length xs) k h)))
         ∙ rw (zero-add, back)

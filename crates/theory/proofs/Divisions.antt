@@ -1,5 +1,4 @@
 -- The laws of a division: its equations, induction by segments, that it loses nothing, and the law of a stream.
--- Assumes nothing.
 use mathlib.Core.Path.{_≡_, refl, sym, ap, _∙_}
 use Prim.Native.Nat.{ℕ, zero, suc, _+_, _≤_}
 use native.Mathlib.Nat.{le-antisymm, suc-add}

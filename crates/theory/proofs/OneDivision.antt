@@ -1,5 +1,4 @@
 -- That a table's reader reads the paper's segments, and that a text divides in exactly one way, for any table whose rows do not meet.
--- Assumes nothing.
 use mathlib.Core.Path.{_≡_, refl, sym, ap, ap₂, _∙_}
 use mathlib.Core.Logic.{inl, inr, ⊎-elim}
 use Prim.Native.Nat.{ℕ, zero, suc, _≤_, _<_, suc-le-suc}

@@ -1,5 +1,4 @@
 -- That what is pending is exactly nothing or a proper beginning of a well-formed sequence, for any table whose rows do not meet.
--- Assumes nothing.
 use mathlib.Core.Path.{_≡_, refl, sym, ap, _∙_}
 use mathlib.Core.Logic.{_↔_, inl, inr}
 use Prim.Native.Nat.{ℕ, zero, _<_}

@@ -1,5 +1,4 @@
 -- A piece more of a stream, over any division and any action of a segment.
--- Assumes nothing.
 use mathlib.Core.Path.{_≡_}
 use Prim.Native.Nat.{ℕ}
 use mathlib.Core.List.{List, [], _++_, foldl-append}

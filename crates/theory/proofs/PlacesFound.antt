@@ -1,5 +1,4 @@
 -- The laws of places: lookup by any measure, the last place at or before a count, and both in a text that is divided.
--- Assumes nothing.
 use mathlib.Core.Path.{_≡_, refl, sym, ap, _∙_}
 use Prim.Native.Nat.{ℕ, zero, _+_, _≤_, _<_}
 use native.Mathlib.Nat.{le-refl, le-trans, le-of-lt, zero-add}

@@ -1,5 +1,4 @@
 -- Rows of numbers: runs written one over another, entries of one width and how they are read back, and the multiples of a spacing.
--- Assumes nothing.
 use mathlib.Core.Path.{_≡_, refl, ap, ap₂, _∙_}
 use Prim.Native.Nat.{ℕ, zero, suc, _+_, _*_, _/_, _≤_, _<_}
 use native.Mathlib.Nat.{add-zero, zero-add, suc-add, mul-suc, mul-zero, mul-comm, not-suc-le-zero, le-trans, le-of-suc-le-suc}

@@ -1,5 +1,4 @@
 -- The sequences of a table, row by row: each is read as one whole segment whatever follows, and every whole segment is one.
--- Assumes nothing.
 use mathlib.Core.Path.{_≡_, sym, subst, _∙_}
 use mathlib.Core.Logic.{inl, inr, ⊎-elim}
 use Prim.Native.Nat.{ℕ, zero, suc, _≤_}

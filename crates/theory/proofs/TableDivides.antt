@@ -1,5 +1,4 @@
 -- The laws of a reader by a table, for any table: it is a division, holds little back, and its damage is short.
--- Assumes nothing.
 use mathlib.Core.Path.{_≡_, refl, ap}
 use Prim.Native.Nat.{ℕ, zero, suc, _≤_, _<_, max, suc-le-suc}
 use native.Mathlib.Nat.{le-trans}
@@ -12,7 +11,7 @@ use lib.Dec.{leb}
 use borrow.Author.Tests.{leb-true, le-leb, lt-leb}
 use native.Mathlib.Omega.{arith}
 use Rattle.theory.specs.Reader.{Look}
-use Rattle.theory.specs.Table.{Range, within, Row, Kind, damage, isDamage, longer, want, begun, lone, read}
+use Rattle.theory.specs.Table.{Range, within, Row, Kind, damage, isDamage, longer, want, wantedBehind, lone, read}
 use Rattle.theory.proofs.Cases.{split, both, All}
 use Rattle.theory.proofs.Divisions.{Division, Holds}
 
@@ -129,11 +128,11 @@ module _ (rows : List Row) where
 -- ---- the row of an element: those in front of it have smaller leads, and those behind it greater ones
 
 pub begun-row : (pre : List Row) (w : Row) (post : List Row) (x : ℕ) → All (λ v. v .lead .high < x) pre → w .lead .low ≤ x → x ≤ w .lead .high
-    → begun (pre ++ w ∷ post) x ≡ some (w .later)
+    → wantedBehind (pre ++ w ∷ post) x ≡ some (w .later)
 begun-row [] w post x a l h = rw (in-yes (w .lead) x l h)
 begun-row (v ∷ pre) w post x a l h = rw (in-over (v .lead) x (a .0)) (begun-row pre w post x (a .1) l h)
 
-pub begun-none : (pre post : List Row) (x : ℕ) → All (λ v. v .lead .high < x) pre → All (λ v. x < v .lead .low) post → begun (pre ++ post) x ≡ none
+pub begun-none : (pre post : List Row) (x : ℕ) → All (λ v. v .lead .high < x) pre → All (λ v. x < v .lead .low) post → wantedBehind (pre ++ post) x ≡ none
 begun-none [] [] x a b = refl
 begun-none [] (v ∷ post) x a b = rw (in-under (v .lead) x (b .0)) (begun-none [] post x a (b .1))
 begun-none (v ∷ pre) post x a b = rw (in-over (v .lead) x (a .0)) (begun-none pre post x (a .1) b)

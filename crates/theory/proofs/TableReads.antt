@@ -1,5 +1,4 @@
 -- THE READER OF A TABLE reads the table's segments, in the paper's words, for any table whose rows do not meet.
--- Assumes nothing.
 use Prim.Native.Nat.{zero}
 use mathlib.Core.List.{List}
 use Rattle.theory.specs.Table.{Row, read}

@@ -1,5 +1,4 @@
 -- The laws of what is kept: totals and entries of two runs of segments, the list with room, and the log of a text in pieces.
--- Assumes nothing.
 use mathlib.Core.Path.{_≡_, refl, sym, ap, _∙_}
 use Prim.Native.Nat.{ℕ, zero, suc, _+_, _-_, _*_, _≤_, _<_}
 use native.Mathlib.Nat.{zero-add, add-zero, add-assoc, mul-suc, mul-zero, mul-one, mul-add, sub-zero}

@@ -1,5 +1,4 @@
 -- The laws of the indexed lookup: the choice by halving, lookup resumed at a place, and that a true index answers as the plain one.
--- Assumes nothing.
 use mathlib.Core.Path.{_≡_, refl, sym, ap, _∙_}
 use mathlib.Core.Logic.{_⊎_, inl, inr}
 use Prim.Native.Nat.{ℕ, zero, suc, _+_, _-_, _*_, _/_, _≤_, _<_}

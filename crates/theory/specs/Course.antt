@@ -1,6 +1,5 @@
 -- Calls of one caller, one after another, with a text that comes in pieces. A refused call is not counted.
 -- No contract cites these; the theorems about many calls do.
--- Assumes nothing.
 use Prim.Native.Nat.{ℕ}
 use mathlib.Core.Bool.{Bool, cond}
 use mathlib.Core.List.{List, [], _∷_, _++_, foldl}
@@ -17,8 +16,8 @@ pub record Course (H : Type 0) : Type 0 where
   pub caller : H
   pub pieces : List (List ℕ)
 
-abbrev pub begun : {H : Type 0} → H → Course H
-begun h = record { caller = h; pieces = [] }
+abbrev pub uncalled : {H : Type 0} → H → Course H
+uncalled h = record { caller = h; pieces = [] }
 
 module _ {H C : Type 0} (calls : Calls H C) where
   abbrev pub granted : Course H → C → Course H
@@ -29,4 +28,4 @@ module _ {H C : Type 0} (calls : Calls H C) where
 
   -- THE COURSE OF CALLS
   abbrev pub course : H → List C → Course H
-  course h = foldl called (begun h)
+  course h = foldl called (uncalled h)

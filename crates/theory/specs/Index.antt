@@ -1,5 +1,4 @@
 -- The index of a text: a checkpoint at each multiple of a spacing, what the builder writes, and lookup from a checkpoint on.
--- Assumes nothing.
 use Prim.Native.Nat.{ℕ, zero, suc, _+_, _-_, _*_, _/_}
 use mathlib.Core.Bool.{Bool, cond, _&&_}
 use mathlib.Core.List.{List, [], _∷_, foldl}
@@ -16,8 +15,8 @@ tab c zero f = []
 tab c (suc n) f = f c ∷ tab (suc c) n f
 
 -- entry k of a row of numbers
-abbrev pub entry : {P : Type 0} → ℕ → (List ℕ → P) → List ℕ → ℕ → P
-entry width dec row k = dec (take width (drop (width * k) row))
+abbrev pub numbersAt : {P : Type 0} → ℕ → (List ℕ → P) → List ℕ → ℕ → P
+numbersAt width dec row k = dec (take width (drop (width * k) row))
 
 -- how many checkpoints a text of so many elements has
 abbrev pub marks : ℕ → ℕ → ℕ
@@ -53,8 +52,8 @@ module _ {K P : Type 0} (R : Ruler K P) (enc : P → List ℕ) (width spacing : 
   abbrev pub add : Built P → Segment K → Built P
   add t s = build t (s ∷ [])
 
-  abbrev pub begun : List ℕ → Built P
-  begun row = record { place = R .zeroth; row = sets row zero (enc (R .zeroth)) }
+  abbrev pub startMarked : List ℕ → Built P
+  startMarked row = record { place = R .zeroth; row = sets row zero (enc (R .zeroth)) }
 
 -- ---- lookup in an index, of which `ix k` is checkpoint k, whatever it holds
 

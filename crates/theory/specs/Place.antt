@@ -1,5 +1,4 @@
 -- Places: what has been counted at a boundary of a text; plain lookup by any measure; the last place at or before a count.
--- Assumes nothing.
 use Prim.Native.Nat.{ℕ}
 use mathlib.Core.Bool.{cond}
 use mathlib.Core.List.{List, [], _∷_}

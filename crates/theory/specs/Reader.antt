@@ -1,5 +1,4 @@
 -- A text divided into segments by a reader, and what of it is settled while more text may follow.
--- Assumes nothing.
 use Prim.Native.Nat.{ℕ, zero, suc}
 use mathlib.Core.Bool.{Bool, true, not, cond}
 use mathlib.Core.List.{List, [], _∷_}

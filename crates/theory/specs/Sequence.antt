@@ -1,6 +1,5 @@
 -- The paper's words for a table's segments: well-formed sequences, what begins one, well-formed texts, and the segment at the start of a text.
 -- The reader is shown to read these segments; no contract cites them.
--- Assumes nothing.
 use mathlib.Core.Path.{_≡_}
 use mathlib.Core.Logic.{_⊎_, _↔_}
 use Prim.Native.Nat.{ℕ, suc, _≤_, _<_}

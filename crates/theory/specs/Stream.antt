@@ -1,5 +1,4 @@
 -- A text that comes in pieces. An action says what one segment does to whatever is kept: output, counts, a list, an index.
--- Assumes nothing.
 use Prim.Native.Nat.{ℕ}
 use mathlib.Core.List.{List, [], _∷_, _++_, foldl}
 use Rattle.theory.specs.Reader.{Reader, Segment, cut, parts}

@@ -1,5 +1,4 @@
 -- Readers by a table of well-formed sequences, as the Unicode Standard's table 3-7: a row has a range for each element.
--- Assumes nothing.
 use Prim.Native.Nat.{ℕ, zero, suc}
 use mathlib.Core.Bool.{Bool, true, false, cond, _&&_}
 use mathlib.Core.List.{List, [], _∷_}
@@ -44,9 +43,9 @@ want (r ∷ rs) [] = record { more = zero; tag = damage; sure = false }
 want (r ∷ rs) (x ∷ xs) = cond (within r x) (longer (want rs xs)) (record { more = zero; tag = damage; sure = true })
 
 -- the ranges that a sequence wants behind the element that begins it, if there is a row for it
-abbrev pub begun : List Row → ℕ → Option (List Range)
-begun [] x = none
-begun (w ∷ ws) x = cond (within (w .lead) x) (some (w .later)) (begun ws x)
+abbrev pub wantedBehind : List Row → ℕ → Option (List Range)
+wantedBehind [] x = none
+wantedBehind (w ∷ ws) x = cond (within (w .lead) x) (some (w .later)) (wantedBehind ws x)
 
 -- an element that begins no row is damage by itself
 abbrev pub lone : Look Kind
@@ -58,4 +57,4 @@ follow (some rs) xs = want rs xs
 
 -- THE READER OF A TABLE
 abbrev pub read : List Row → Reader Kind
-read rows x xs = follow (begun rows x) xs
+read rows x xs = follow (wantedBehind rows x) xs

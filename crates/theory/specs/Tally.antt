@@ -1,5 +1,4 @@
 -- What is kept of a text's segments: the written form, totals, the damage entries, and a list with room for its first entries.
--- Assumes nothing.
 use Prim.Native.Nat.{ℕ, zero, suc, _+_, _*_}
 use mathlib.Core.Bool.{Bool, cond}
 use mathlib.Core.List.{List, [], _∷_, _++_}

@@ -1,5 +1,4 @@
 -- UTF-16 is a faithful form: a scalar value is encoded as one unit or a pair, and each of these stands for a scalar value.
--- Assumes nothing.
 use mathlib.Core.Path.{_≡_, refl, _∙_}
 use mathlib.Core.Logic.{inl, inr, ⊎-elim}
 use Prim.Native.Nat.{ℕ, _+_, _-_, _/_, _%_, _≤_, _<_}

@@ -1,5 +1,4 @@
 -- What the reader of units tells, from the tests that its code makes: a law for each of its arms; and what a whole segment is.
--- Assumes nothing.
 use mathlib.Core.Path.{_≡_, refl, sym, ap, _∙_}
 use mathlib.Core.Logic.{_⊎_}
 use Prim.Native.Nat.{ℕ, _≤_, _<_}
@@ -12,7 +11,7 @@ use Rattle.theory.specs.Reader.{Look}
 use Rattle.theory.specs.Table.{Kind, whole, damage, lone}
 use Rattle.theory.specs.Sequence.{Sequence}
 use Rattle.theory.proofs.SequencesAreWhole.{by-rows, whole-sequence}
-use Rattle.terms.specs.Told.{first, lookSays, firstSays}
+use Rattle.terms.specs.Told.{toldFirst, lookSays, firstSays}
 use Rattle.terms.specs.declared.First.the-variants.{Whole, Damage, Begun}
 use Rattle.terms.proofs.WalkBySegments.{says-look}
 use Rattle.terms.proofs.PointTold.{Pointed}
@@ -24,23 +23,23 @@ module _ (text : List ℕ) (some-there : 0 < length text) where
   says : (l : Look Kind) → units (getD text 0 0) (drop 1 text) ≡ l → lookSays l ≡ firstSays units text
   says l e = ap lookSays (sym e) ∙ sym (says-look units text some-there)
 
-  pub reads-whole : (getD text 0 0 < 0xD800) ⊎ ((0xDFFF < getD text 0 0) × (getD text 0 0 ≤ 0xFFFF)) → first (Whole 1) ≡ firstSays units text
+  pub reads-whole : (getD text 0 0 < 0xD800) ⊎ ((0xDFFF < getD text 0 0) × (getD text 0 0 ≤ 0xFFFF)) → toldFirst (Whole 1) ≡ firstSays units text
   reads-whole h = says (record { more = 0; tag = whole; sure = true }) (unit-whole (getD text 0 0) (drop 1 text) h)
 
-  pub reads-second : SecondHalf (getD text 0 0) → first (Damage 1) ≡ firstSays units text
+  pub reads-second : SecondHalf (getD text 0 0) → toldFirst (Damage 1) ≡ firstSays units text
   reads-second h = says lone (second-alone (getD text 0 0) (drop 1 text) h)
 
   -- a first half: what follows decides
   module _ (h : FirstHalf (getD text 0 0)) where
-    pub reads-ended : length text < 2 → first (Begun 1) ≡ firstSays units text
+    pub reads-ended : length text < 2 → toldFirst (Begun 1) ≡ firstSays units text
     reads-ended e =
         let n : length text ≤ 1 = omega arith in
         says (record { more = 0; tag = damage; sure = false }) (rw (drop-of-length-le text n) (first-ended (getD text 0 0) h))
 
-    pub reads-stopped : 1 < length text → (SecondHalf (getD text 1 0) → ⊥) → first (Damage 1) ≡ firstSays units text
+    pub reads-stopped : 1 < length text → (SecondHalf (getD text 1 0) → ⊥) → toldFirst (Damage 1) ≡ firstSays units text
     reads-stopped e o = says lone (rw (drop-cons text 1 0 e) (first-stopped (getD text 0 0) (getD text 1 0) (drop 2 text) h o))
 
-    pub reads-pair : 1 < length text → SecondHalf (getD text 1 0) → first (Whole 2) ≡ firstSays units text
+    pub reads-pair : 1 < length text → SecondHalf (getD text 1 0) → toldFirst (Whole 2) ≡ firstSays units text
     reads-pair e o =
         says (record { more = 1; tag = whole; sure = true }) (ap (units (getD text 0 0)) (drop-cons text 1 0 e) ∙ pair-whole (getD text 0 0) _ (h, o))
 

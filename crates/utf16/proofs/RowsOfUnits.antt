@@ -1,5 +1,4 @@
 -- The rows of the unit table: what is read at a unit, in the paper's words, and the laws of a division that follow for texts of units.
--- Assumes nothing.
 use mathlib.Core.Path.{_≡_, refl, _∙_}
 use mathlib.Core.Logic.{_⊎_, inl, inr}
 use Prim.Native.Nat.{ℕ, zero, _≤_, _<_}
@@ -74,13 +73,13 @@ pub second-alone : (x : ℕ) (xs : List ℕ) → SecondHalf x → units x xs ≡
 unfolding units rows
 second-alone x xs h = rw (begun-none (take 2 rows) (drop 2 rows) x (omega arith) (omega arith))
 
--- D800..DBFF followed by DC00..DFFF is one whole pair
+-- 0xD800..0xDBFF followed by 0xDC00..0xDFFF is one whole pair
 pub pair-whole : (x : ℕ) (xs : List ℕ) → Pair x xs → units x xs ≡ record { more = 1; tag = whole; sure = true }
 unfolding units rows
 pair-whole x [] p = absurd p
 pair-whole x (y ∷ ys) p = read-sequence rows rows-sound x (y ∷ []) ys (of-row rows 1 (x ∷ y ∷ []) (omega arith))
 
--- any other unit in D800..DFFF is damage of length 1
+-- any other unit in 0xD800..0xDFFF is damage of length 1
 pub half-damage : (x : ℕ) (xs : List ℕ) → 0xD800 ≤ x → x ≤ 0xDFFF → (Pair x xs → ⊥) → (units x xs .tag ≡ damage) × (units x xs .more ≡ 0)
 half-damage x xs l h n = under x 0xDC00 (λ k. first xs (l, omega arith) n) (λ k. rw (second-alone x xs (k, h)) (refl, refl))
   where

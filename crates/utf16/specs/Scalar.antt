@@ -1,5 +1,4 @@
 -- The number that a unit or a pair stands for, and the unit or the pair of a scalar value.
--- Assumes nothing.
 use Prim.Native.Nat.{ℕ, _+_, _-_, _*_, _/_, _%_}
 use mathlib.Core.Bool.{cond}
 use mathlib.Core.List.{List, [], _∷_}
@@ -12,7 +11,7 @@ number [] = 0
 number (x ∷ []) = x
 number (x ∷ y ∷ ys) = 0x10000 + (x - 0xD800) * 0x400 + (y - 0xDC00)
 
--- two units exactly if it is 10000 or more
+-- two units exactly if it is U+10000 or more
 abbrev pub pair : ℕ → List ℕ
 pair c = cond (ltb c 0x10000) (c ∷ []) ((0xD800 + (c - 0x10000) / 0x400) ∷ (0xDC00 + (c - 0x10000) % 0x400) ∷ [])
 

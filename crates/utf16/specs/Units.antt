@@ -1,5 +1,4 @@
 -- UTF-16: the well-formed units and pairs, and the reader of texts of units.
--- Assumes nothing.
 use mathlib.Core.List.{List, [], _∷_}
 use Rattle.theory.specs.Reader.{Reader}
 use Rattle.theory.specs.Table.{_to_, Row, Kind, read}

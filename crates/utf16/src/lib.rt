@@ -4,15 +4,15 @@ use terms::Point;
 ghost use mathlib.Core.Path.{_≡_};
 ghost use mathlib.Core.Bool.{not};
 ghost use mathlib.Core.List.{[], _∷_};
-ghost use Rattle.terms.specs.Told.{bit, first, firstSays};
+ghost use Rattle.terms.specs.Told.{bit, toldFirst, firstSays};
 ghost use Rattle.terms.specs.Form.{pointSays};
 ghost use Rattle.utf16.specs.Units.{units};
 ghost use Rattle.utf16.specs.Scalar.{utf16};
-ghost use Rattle.utf16.specs.Plain.{alone, plain};
+ghost use Rattle.utf16.specs.Alone.{alone, allAlone};
 
 // The segment that stands first in a text.
 pub fn segment(text: &[u16]) -> First
-    ensures { λ r. ⌜ first r ≡ firstSays units (now (text .entry)) ⌝ }
+    ensures { λ r. ⌜ toldFirst r ≡ firstSays units (now (text .entry)) ⌝ }
 {
     if text.len() == 0 {
         return First::Nothing;
@@ -87,8 +87,8 @@ fn none(t: bool) -> u16
 }
 
 // Does each unit of a text stand by itself, being no half of a pair?
-pub fn is_plain(text: &[u16]) -> bool
-    ensures { λ r. ⌜ r ≡ plain (now (text .entry)) ⌝ }
+pub fn are_alone(text: &[u16]) -> bool
+    ensures { λ r. ⌜ r ≡ allAlone (now (text .entry)) ⌝ }
 {
     let mut halves: u16 = 0;
     for k in 0..text.len() {

@@ -1,5 +1,4 @@
 -- Where halves stand in pairs there is no damage: what is passed over are whole segments.
--- Assumes nothing.
 use mathlib.Core.Path.{_≡_, refl, sym, ap, _∙_}
 use mathlib.Core.Logic.{_⊎_, inl, inr}
 use Prim.Native.Nat.{ℕ, zero, suc, _+_, _≤_, _<_}
@@ -21,7 +20,7 @@ use Rattle.theory.proofs.Divisions.{cut-cons}
 use Rattle.terms.specs.Told.{bit}
 use Rattle.terms.proofs.WalkBySegments.{Clean}
 use Rattle.utf16.specs.Units.{units}
-use Rattle.utf16_check.specs.Paired.{isFirst, isSecond, Paired, WholeTo}
+use Rattle.utf16_check.specs.Inside.Paired.{isFirst, isSecond, Paired, WholeTo}
 use Rattle.utf16.proofs.RowsOfUnits.{FirstHalf, SecondHalf, unit-whole, pair-whole}
 
 -- ---- the tests

@@ -7,17 +7,19 @@ ghost use mathlib.Core.Path.{_≡_};
 ghost use mathlib.Core.Bool.{true};
 ghost use Prim.Native.Nat.{_≤_};
 ghost use lib.ListN.{length};
-ghost use Rattle.terms.specs.Told.{bit, checked};
+ghost use Rattle.terms.specs.Told.{bit, toldChecked};
 ghost use Rattle.terms.specs.Strict.{checkSays};
 ghost use Rattle.utf16.specs.Units.{units};
-ghost use Rattle.utf16_check.specs.Paired.{isFirst, isSecond, Paired, WholeTo};
+ghost use Rattle.utf16_check.specs.Inside.Paired.{isFirst, isSecond, Paired, WholeTo};
 
+// A unit as a number of places.
 fn wide_place(x: u16) -> usize
     ensures { λ r. ⌜ r ≡ x ⌝ }
 {
     x as usize
 }
 
+// 1 for the first half of a pair, else 0.
 fn first_half(x: u16) -> u16
     ensures { λ r. ⌜ r ≡ bit (isFirst x) ⌝ }
 {
@@ -30,6 +32,7 @@ fn first_half(x: u16) -> u16
     1
 }
 
+// 1 for the second half of a pair, else 0.
 fn second_half(x: u16) -> u16
     ensures { λ r. ⌜ r ≡ bit (isSecond x) ⌝ }
 {
@@ -74,7 +77,7 @@ fn whole_blocks(text: &[u16]) -> usize
 
 // Is a text well-formed? If not, its first damage is told.
 pub fn check(text: &[u16]) -> Checked
-    ensures { λ r. ⌜ checked r ≡ checkSays units (now (text .entry)) ⌝ }
+    ensures { λ r. ⌜ toldChecked r ≡ checkSays units (now (text .entry)) ⌝ }
 {
     if Decoder::LIMIT < text.len() {
         return Checked::Refused(Refusal::OverLimit);

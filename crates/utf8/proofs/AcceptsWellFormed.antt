@@ -1,5 +1,4 @@
 -- Strict reading accepts exactly the well-formed texts of bytes within the limit: well-formed sequences one behind another.
--- Assumes nothing.
 use mathlib.Core.Path.{_≡_}
 use mathlib.Core.Logic.{_↔_}
 use Prim.Native.Nat.{ℕ, _≤_}

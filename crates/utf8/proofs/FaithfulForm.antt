@@ -1,5 +1,4 @@
 -- UTF-8 is a faithful form: a scalar value is encoded as a sequence of some row, and a row's sequence stands for a scalar value.
--- Assumes nothing.
 use mathlib.Core.Path.{_≡_, refl, _∙_}
 use mathlib.Core.Logic.{_⊎_, inl, inr, ⊎-elim}
 use Prim.Native.Nat.{ℕ, _+_, _/_, _%_, _≤_, _<_}

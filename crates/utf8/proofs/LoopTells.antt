@@ -1,5 +1,4 @@
 -- The reader's loop over the bytes that a first byte wants: what it tells is what was passed and what the rest says.
--- Assumes nothing.
 use mathlib.Core.Path.{_≡_, ap, _∙_}
 use Prim.Native.Nat.{ℕ, suc, _+_, _-_, _≤_, _<_}
 use native.Mathlib.Nat.{add-zero}
@@ -11,10 +10,10 @@ use native.Mathlib.Omega.{arith}
 use Rattle.theory.specs.Reader.{Look}
 use Rattle.theory.specs.Table.{_to_, within, Kind, isDamage, want}
 use Rattle.theory.proofs.TableDivides.{want-ended, want-stopped, want-next}
-use Rattle.terms.specs.Told.{first, bit, lookSays}
+use Rattle.terms.specs.Told.{toldFirst, bit, lookSays}
 use Rattle.terms.specs.declared.First.the-variants.{Whole, Damage, Begun}
 use Rattle.utf8.specs.Bytes.{next}
-use Rattle.utf8.specs.Lead.{ranges}
+use Rattle.utf8.specs.Inside.Lead.{ranges}
 
 -- what a look tells of a segment n of whose bytes were passed before
 abbrev says : ℕ → Look Kind → List ℕ
@@ -34,7 +33,7 @@ module _ (text : List ℕ) (more low high : ℕ) where
 
   module _ (least most n : ℕ) (f : Followed least most n) where
     -- all that was wanted is there
-    pub follow-whole : more < n → first (Whole n) ≡ lookSays (want (ranges more low high) (drop 1 text))
+    pub follow-whole : more < n → toldFirst (Whole n) ≡ lookSays (want (ranges more low high) (drop 1 text))
     follow-whole h = let z : suc more - n ≡ 0 = omega arith in rw (f .same, z, add-zero)
 
     module _ (h : n ≤ more) where
@@ -43,12 +42,12 @@ module _ (text : List ℕ) (more low high : ℕ) where
       same-here = let e : suc more - n ≡ suc (more - n) = omega arith in rw e at (f .same)
 
       -- the text ends
-      pub follow-ended : length text ≤ n → first (Begun n) ≡ lookSays (want (ranges more low high) (drop 1 text))
+      pub follow-ended : length text ≤ n → toldFirst (Begun n) ≡ lookSays (want (ranges more low high) (drop 1 text))
       follow-ended k = rw (same-here, want-ended (least to most) (ranges (more - n) (next .low) (next .high)) text n k, add-zero)
 
       -- another byte stops it
       pub follow-stopped : n < length text → within (least to most) (getD text n 0) ≡ false
-          → first (Damage n) ≡ lookSays (want (ranges more low high) (drop 1 text))
+          → toldFirst (Damage n) ≡ lookSays (want (ranges more low high) (drop 1 text))
       follow-stopped k e = rw (same-here, want-stopped (least to most) (ranges (more - n) (next .low) (next .high)) text n k e, add-zero)
 
       -- the byte is as wanted

@@ -1,5 +1,4 @@
 -- The rows of the byte table: which of them a byte begins, and the laws of a division that follow for byte texts.
--- Assumes nothing.
 use mathlib.Core.Path.{_≡_, refl, sym, _∙_}
 use Prim.Native.Nat.{ℕ, zero, suc, _≤_, _<_}
 use mathlib.Core.Bool.{true, false}
@@ -7,7 +6,7 @@ use mathlib.Core.List.{List, _∷_, _++_}
 use mathlib.Core.Option.{some, none}
 use lib.ListN.{length, getD, take, drop}
 use native.Mathlib.Omega.{arith}
-use Rattle.theory.specs.Table.{Row, isDamage, want, begun}
+use Rattle.theory.specs.Table.{Row, isDamage, want, wantedBehind}
 use Rattle.theory.specs.Sequence.{Reads}
 use Rattle.theory.proofs.Cases.{All}
 use Rattle.theory.proofs.Divisions.{Division, Holds}
@@ -15,27 +14,27 @@ use Rattle.theory.proofs.TableDivides.{begun-row, begun-none, table-division, t
 use Rattle.theory.proofs.OneDivision.{Sound, is-sound}
 use Rattle.theory.proofs.TableReads.{table-reads}
 use Rattle.terms.specs.Limits.{mostPending, mostDamaged}
-use Rattle.terms.specs.Told.{first, lookSays, firstSays}
+use Rattle.terms.specs.Told.{toldFirst, lookSays, firstSays}
 use Rattle.terms.specs.declared.First.the-variants.{Damage}
 use Rattle.terms.proofs.WalkBySegments.{says-look}
 use Rattle.utf8.specs.Bytes.{rows, bytes}
-use Rattle.utf8.specs.Lead.{ranges, wanted}
+use Rattle.utf8.specs.Inside.Lead.{ranges, wanted}
 use Rattle.utf8.specs.declared.Lead.{Lead}
 use Rattle.utf8.specs.declared.Lead.the-variants.{Alone, Begins}
 
 -- a byte begins row k
 pub at-row : (k : ℕ) (w : Row) → rows ≡ take k rows ++ w ∷ drop (suc k) rows → (x : ℕ)
-    → All (λ v. v .lead .high < x) (take k rows) × (w .lead .low ≤ x) × (x ≤ w .lead .high) → begun rows x ≡ some (w .later)
+    → All (λ v. v .lead .high < x) (take k rows) × (w .lead .low ≤ x) × (x ≤ w .lead .high) → wantedBehind rows x ≡ some (w .later)
 at-row k w e x m = rw e (begun-row (take k rows) w (drop (suc k) rows) x (m .0) (m .1) (m .2))
 
 -- a byte lies between the rows before k and the others
 pub at-none : (k : ℕ) → rows ≡ take k rows ++ drop k rows → (x : ℕ)
-    → All (λ v. v .lead .high < x) (take k rows) × All (λ v. x < v .lead .low) (drop k rows) → begun rows x ≡ none
+    → All (λ v. v .lead .high < x) (take k rows) × All (λ v. x < v .lead .low) (drop k rows) → wantedBehind rows x ≡ none
 at-none k e x m = rw e (begun-none (take k rows) (drop k rows) x (m .0) (m .1))
 
 -- what the reader tells of a text, from what its first byte begins
-module _ (text : List ℕ) (some-there : 0 < length text) (r : Lead) (b : begun rows (getD text 0 0) ≡ wanted r) where
-  pub first-alone : r ≡ Alone → first (Damage 1) ≡ firstSays bytes text
+module _ (text : List ℕ) (some-there : 0 < length text) (r : Lead) (b : wantedBehind rows (getD text 0 0) ≡ wanted r) where
+  pub first-alone : r ≡ Alone → toldFirst (Damage 1) ≡ firstSays bytes text
   unfolding bytes
   first-alone e = sym (says-look bytes text some-there ∙ rw (b, e))
 

@@ -1,5 +1,4 @@
 -- UTF-8: the well-formed byte sequences of the Unicode Standard, table 3-7, and the reader of byte texts.
--- Assumes nothing.
 use mathlib.Core.List.{List, [], _∷_}
 use Rattle.theory.specs.Reader.{Reader}
 use Rattle.theory.specs.Table.{Range, _to_, Row, Kind, read}

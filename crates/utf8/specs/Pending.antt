@@ -1,5 +1,4 @@
 -- Pending bytes as a state keeps them: so many places as may be pending, of which the unused ones are 0.
--- Assumes nothing.
 use Prim.Native.Nat.{ℕ}
 use mathlib.Core.Bool.{Bool, true, _&&_}
 use mathlib.Core.List.{List, [], _∷_, _++_}

@@ -1,5 +1,4 @@
 -- The number that a well-formed byte sequence stands for, and the sequence of a scalar value.
--- Assumes nothing.
 use Prim.Native.Nat.{ℕ, _+_, _*_, _/_, _%_}
 use mathlib.Core.Bool.{cond}
 use mathlib.Core.List.{List, [], _∷_}

@@ -5,22 +5,22 @@ ghost use mathlib.Core.Path.{_≡_};
 ghost use Prim.Native.Nat.{_≤_, _<_};
 ghost use mathlib.Core.List.{[], _∷_};
 ghost use lib.ListN.{length, take, drop};
-ghost use Rattle.theory.specs.Table.{_to_, within, want, begun};
-ghost use Rattle.terms.specs.Told.{first, lookSays, firstSays};
+ghost use Rattle.theory.specs.Table.{_to_, within, want, wantedBehind};
+ghost use Rattle.terms.specs.Told.{toldFirst, lookSays, firstSays};
 ghost use Rattle.terms.specs.Form.{pointSays};
 ghost use Rattle.utf8.specs.Bytes.{rows, bytes};
-ghost use Rattle.utf8.specs.Lead.{ranges, wanted};
+ghost use Rattle.utf8.specs.Inside.Lead.{ranges, wanted};
 ghost use Rattle.utf8.specs.Scalar.{number, utf8};
 
 // What a first byte tells: no sequence begins with it; or one does, and wants so many bytes more, the next from low to high
-// and the others from 80 to BF.
+// and the others from 0x80 to 0xBF.
 pub enum Lead {
     Alone,
     Begins(usize, u8, u8),
 }
 
 fn lead_of(b: u8) -> Lead
-    ensures { λ r. ⌜ begun rows b ≡ wanted r ⌝ }
+    ensures { λ r. ⌜ wantedBehind rows b ≡ wanted r ⌝ }
 {
     match b {
         0x00..=0x7F => Lead::Begins(0, 0x80, 0xBF),
@@ -44,7 +44,7 @@ fn between(b: u8, low: u8, high: u8) -> bool
 
 // Reads on behind a text's first byte, which wants so many more.
 fn follow(text: &[u8], more: usize, low: u8, high: u8) -> First
-    ensures { λ r. ⌜ first r ≡ lookSays (want (ranges more low high) (drop 1 (now (text .entry)))) ⌝ }
+    ensures { λ r. ⌜ toldFirst r ≡ lookSays (want (ranges more low high) (drop 1 (now (text .entry)))) ⌝ }
 {
     let mut least = low;
     let mut most = high;
@@ -65,7 +65,7 @@ fn follow(text: &[u8], more: usize, low: u8, high: u8) -> First
 
 // The segment that stands first in a text.
 pub fn segment(text: &[u8]) -> First
-    ensures { λ r. ⌜ first r ≡ firstSays bytes (now (text .entry)) ⌝ }
+    ensures { λ r. ⌜ toldFirst r ≡ firstSays bytes (now (text .entry)) ⌝ }
 {
     if text.len() == 0 {
         return First::Nothing;

@@ -1,5 +1,4 @@
 -- A run of whole segments at the start of a byte text: the text divides into its segments and those of the rest.
--- Assumes nothing.
 use mathlib.Core.Path.{_≡_, refl, sym, ap, _∙_, subst}
 use Prim.Native.Nat.{ℕ, suc, _+_, _-_, _≤_, _<_}
 use mathlib.Core.Bool.{true}
@@ -12,7 +11,7 @@ use Rattle.theory.specs.Table.{Kind, whole, damage, isDamage}
 use Rattle.theory.specs.Tally.{total, size, entries}
 use Rattle.theory.proofs.Cases.{All}
 use Rattle.theory.proofs.Divisions.{cut-nil, cut-cons, cut-size}
-use Rattle.terms.specs.Told.{first, sizeOf, firstSays}
+use Rattle.terms.specs.Told.{toldFirst, sizeOf, firstSays}
 use Rattle.terms.specs.declared.First.{First}
 use Rattle.terms.specs.declared.First.the-variants.{Nothing, Whole, Damage, Begun}
 use Rattle.terms.proofs.WalkBySegments.{part-is, seen, Turn, turn-damage, turn-begun, turn-end, Clean}
@@ -80,7 +79,7 @@ module _ (text : List ℕ) (n : ℕ) (r : Run text n) where
 
 -- what the segment reader tells behind the run, where there is text left: the first damage
 pub stop-turn : (text : List ℕ) (n : ℕ) → Stops (drop n text) → n < length text → (q : First)
-    → first q ≡ firstSays bytes (take (length text - n) (drop n text)) → Turn bytes text n (sizeOf q) damage
+    → toldFirst q ≡ firstSays bytes (take (length text - n) (drop n text)) → Turn bytes text n (sizeOf q) damage
 stop-turn text n s l Nothing told =
     let z : length (drop n text) ≡ 0 = ap length (turn-end bytes-division text n (omega arith) Nothing told refl) in
     absurd (omega (arith, length-drop n text))

@@ -1,6 +1,5 @@
 -- Where each byte stands well behind the three before it, a text is whole segments as far as the last boundary, and damage
 -- stands behind them.
--- Assumes nothing.
 use mathlib.Core.Path.{_≡_, refl, sym, _∙_, subst}
 use Prim.Native.Nat.{ℕ, zero, suc, pred, _+_, _-_, _≤_, _<_}
 use mathlib.Core.Bool.{true, false, cond, _&&_}
@@ -11,9 +10,9 @@ use lib.Seq.{drop-append-add}
 use lib.Dec.{leb, ltb, eqb}
 use native.Mathlib.Omega.{arith}
 use borrow.Author.Tests.{lt-ltb, le-ltb, le-leb, lt-leb, ltb-true, leb-true, eq-eqb, ne-eqb}
-use Rattle.theory.specs.Table.{Range, _to_, within, damage, longer, want, begun, lone}
+use Rattle.theory.specs.Table.{Range, _to_, within, damage, longer, want, wantedBehind, lone}
 use Rattle.theory.proofs.Cases.{split, under, both, by-ends}
-use Rattle.utf8_scan.specs.Stands.{later, lowOf, highOf, second, stands, standingFrom, standing, waiting, waitingAt}
+use Rattle.utf8_scan.specs.Stands.{isLater, lowOf, highOf, second, stands, standingFrom, standing, waiting, waitingAt}
 use Rattle.utf8_scan.proofs.OnwardByBytes.{before-is}
 use Rattle.utf8_scan.proofs.AskedByThree.{waits-one, waits-two, waits-three, waits-none, stands-first, stands-second, stands-third, stands-fourth}
 use Rattle.utf8.specs.Bytes.{row, next, rows, bytes}
@@ -29,7 +28,7 @@ below-is y (suc high) h = under y (suc high)
     (λ a. le-leb y high (omega arith) ∙ sym (lt-ltb y (suc high) a))
     (λ a. lt-leb y high (omega arith) ∙ sym (le-ltb y (suc high) a))
 
-next-is : (y : ℕ) → within next y ≡ later y
+next-is : (y : ℕ) → within next y ≡ isLater y
 next-is y = rw (below-is y 0xC0 (omega arith))
 
 -- ---- what a first byte begins, told by the tests of the second byte
@@ -58,17 +57,17 @@ module _ (x : ℕ) where
   others-four : 0xF0 ≤ x → others x ≡ next ∷ next ∷ []
   others-four l = rw (le-ltb x 0xE0 (omega arith), le-ltb x 0xF0 l)
 
-  as-wanted : (low high : ℕ) (rs : List Range) → begun rows x ≡ some (low to high ∷ rs) → lowOf x ≡ low → highOf x ≡ suc high → others x ≡ rs
-      → begun rows x ≡ some (wanted x)
+  as-wanted : (low high : ℕ) (rs : List Range) → wantedBehind rows x ≡ some (low to high ∷ rs) → lowOf x ≡ low → highOf x ≡ suc high → others x ≡ rs
+      → wantedBehind rows x ≡ some (wanted x)
   as-wanted low high rs b p q r = rw (b, p, q, r)
 
-  begun-two : 0xC2 ≤ x → x < 0xE0 → begun rows x ≡ some (wanted x)
+  begun-two : 0xC2 ≤ x → x < 0xE0 → wantedBehind rows x ≡ some (wanted x)
   unfolding rows
   begun-two l h = as-wanted 0x80 0xBF []
       (at-row 1 (row (0xC2 to 0xDF) (next ∷ [])) refl x (omega arith))
       (low-any (λ e. omega arith) (λ e. omega arith)) (high-any (λ e. omega arith) (λ e. omega arith)) (others-two h)
 
-  begun-three : 0xE0 ≤ x → x < 0xF0 → begun rows x ≡ some (wanted x)
+  begun-three : 0xE0 ≤ x → x < 0xF0 → wantedBehind rows x ≡ some (wanted x)
   unfolding rows
   begun-three l h =
       let o : others x ≡ next ∷ [] = others-three l h in
@@ -90,7 +89,7 @@ module _ (x : ℕ) where
       as-wanted 0x80 0xBF (next ∷ []) (at-row 5 (row (0xEE to 0xEF) (next ∷ next ∷ [])) refl x (omega arith))
       (low-any (λ d. omega arith) (λ d. omega arith)) (high-any (λ d. omega arith) (λ d. omega arith)) o)))
 
-  begun-four : 0xF0 ≤ x → x < 0xF5 → begun rows x ≡ some (wanted x)
+  begun-four : 0xF0 ≤ x → x < 0xF5 → wantedBehind rows x ≡ some (wanted x)
   unfolding rows
   begun-four l h =
       let o : others x ≡ next ∷ next ∷ [] = others-four l in
@@ -108,22 +107,22 @@ module _ (x : ℕ) where
       as-wanted 0x80 0x8F (next ∷ next ∷ []) (at-row 8 (row (0xF4 to 0xF4) (0x80 to 0x8F ∷ next ∷ next ∷ [])) refl x (omega arith))
       (low-any (λ d. omega arith) (λ d. omega arith)) (rw (ne-eqb x 0xED (λ d. omega arith), eq-eqb x 0xF4 e)) o))
 
-  begun-wanted : 0xC2 ≤ x → x < 0xF5 → begun rows x ≡ some (wanted x)
+  begun-wanted : 0xC2 ≤ x → x < 0xF5 → wantedBehind rows x ≡ some (wanted x)
   begun-wanted l h = under x 0xE0 (begun-two l) (λ a. under x 0xF0 (begun-three a) (λ b. begun-four b h))
 
   -- ---- the look at a first byte
 
   look-plain : x < 0x80 → (xs : List ℕ) → bytes x xs ≡ wholeLook 0
   unfolding bytes rows
-  look-plain h xs = let b : begun rows x ≡ some [] = at-row 0 (row (0x00 to 0x7F) []) refl x (omega arith) in rw b
+  look-plain h xs = let b : wantedBehind rows x ≡ some [] = at-row 0 (row (0x00 to 0x7F) []) refl x (omega arith) in rw b
 
   look-later : 0x80 ≤ x → x < 0xC2 → (xs : List ℕ) → bytes x xs ≡ lone
   unfolding bytes rows
-  look-later l h xs = let b : begun rows x ≡ none = at-none 1 refl x (omega arith) in rw b
+  look-later l h xs = let b : wantedBehind rows x ≡ none = at-none 1 refl x (omega arith) in rw b
 
   look-past : 0xF5 ≤ x → (xs : List ℕ) → bytes x xs ≡ lone
   unfolding bytes rows
-  look-past l xs = let b : begun rows x ≡ none = at-none 9 refl x (omega arith) in rw b
+  look-past l xs = let b : wantedBehind rows x ≡ none = at-none 9 refl x (omega arith) in rw b
 
   look-wanted : 0xC2 ≤ x → x < 0xF5 → (xs : List ℕ) → bytes x xs ≡ want (wanted x) xs
   unfolding bytes
@@ -175,12 +174,12 @@ module _ (x : ℕ) where
         look-two-ended : bytes x (y ∷ []) .tag ≡ damage
         look-two-ended = under x 0xF0 (λ h. rw (look-second [], others-three g h)) (λ h. rw (look-second [], others-four h))
 
-        look-two-stopped : (z : ℕ) → later z ≡ false → (zs : List ℕ) → bytes x (y ∷ z ∷ zs) .tag ≡ damage
+        look-two-stopped : (z : ℕ) → isLater z ≡ false → (zs : List ℕ) → bytes x (y ∷ z ∷ zs) .tag ≡ damage
         look-two-stopped z t zs = under x 0xF0
             (λ h. rw (look-second (z ∷ zs), others-three g h, next-is z, t))
             (λ h. rw (look-second (z ∷ zs), others-four h, next-is z, t))
 
-        module _ (z : ℕ) (t : later z ≡ true) where
+        module _ (z : ℕ) (t : isLater z ≡ true) where
           look-three : x < 0xF0 → (zs : List ℕ) → bytes x (y ∷ z ∷ zs) ≡ wholeLook 2
           look-three h zs = rw (look-second (z ∷ zs), others-three g h, next-is z, t)
 
@@ -188,10 +187,10 @@ module _ (x : ℕ) where
             look-three-ended : bytes x (y ∷ z ∷ []) .tag ≡ damage
             look-three-ended = rw (look-second (z ∷ []), others-four f, next-is z, t)
 
-            look-three-stopped : (u : ℕ) → later u ≡ false → (us : List ℕ) → bytes x (y ∷ z ∷ u ∷ us) .tag ≡ damage
+            look-three-stopped : (u : ℕ) → isLater u ≡ false → (us : List ℕ) → bytes x (y ∷ z ∷ u ∷ us) .tag ≡ damage
             look-three-stopped u v us = rw (look-second (z ∷ u ∷ us), others-four f, next-is z, t, next-is u, v)
 
-            look-four : (u : ℕ) → later u ≡ true → (us : List ℕ) → bytes x (y ∷ z ∷ u ∷ us) ≡ wholeLook 3
+            look-four : (u : ℕ) → isLater u ≡ true → (us : List ℕ) → bytes x (y ∷ z ∷ u ∷ us) ≡ wholeLook 3
             look-four u v us = rw (look-second (z ∷ u ∷ us), others-four f, next-is z, t, next-is u, v)
 
 -- ---- a text n of whose bytes stand well, w of them behind the last boundary
@@ -273,13 +272,13 @@ module _ (b3 b2 b1 x : ℕ) (h : b1 < 0xC0) (i : b2 < 0xE0) (j : b3 < 0xF0) wher
         fits-two-ended : FitsBehind b3 b2 b1 (x ∷ y ∷ [])
         fits-two-ended = rw (e₁, e₂) (fits-stay (x ∷ y ∷ []) 2 (waiting b1 x y) (waits-two b1 x y y-low g) (look-two-ended x y s g))
 
-        fits-two-stopped : (z : ℕ) → later z ≡ false → (zs : List ℕ) → FitsBehind b3 b2 b1 (x ∷ y ∷ z ∷ zs)
+        fits-two-stopped : (z : ℕ) → isLater z ≡ false → (zs : List ℕ) → FitsBehind b3 b2 b1 (x ∷ y ∷ z ∷ zs)
         fits-two-stopped z t zs =
             let e : stands b1 x y z ≡ false = stands-third b1 x y z y-low g ∙ t in
             rw (e₁, e₂, e) (fits-stay (x ∷ y ∷ z ∷ zs) 2 (waiting b1 x y) (waits-two b1 x y y-low g) (look-two-stopped x y s g z t zs))
 
         -- its third byte
-        module _ (z : ℕ) (t : later z ≡ true) where
+        module _ (z : ℕ) (t : isLater z ≡ true) where
           e₃ : stands b1 x y z ≡ true
           e₃ = stands-third b1 x y z y-low g ∙ t
 
@@ -302,15 +301,15 @@ module _ (b3 b2 b1 x : ℕ) (h : b1 < 0xC0) (i : b2 < 0xE0) (j : b3 < 0xF0) wher
 
             -- its fourth byte
             module _ (u : ℕ) where
-              fourth-is : stands x y z u ≡ later u
+              fourth-is : stands x y z u ≡ isLater u
               fourth-is = stands-fourth x y z u z-low (omega (arith, y-low)) q
 
-              fits-three-stopped : later u ≡ false → (us : List ℕ) → FitsBehind b3 b2 b1 (x ∷ y ∷ z ∷ u ∷ us)
+              fits-three-stopped : isLater u ≡ false → (us : List ℕ) → FitsBehind b3 b2 b1 (x ∷ y ∷ z ∷ u ∷ us)
               fits-three-stopped v us =
                   let e : stands x y z u ≡ false = fourth-is ∙ v in
                   rw (e₁, e₂, e₃, e) (fits-stay (x ∷ y ∷ z ∷ u ∷ us) 3 (waiting x y z) three-wait (look-three-stopped x y s g z t q u v us))
 
-              fits-four : later u ≡ true → (us : List ℕ) → Fitted us → FitsBehind b3 b2 b1 (x ∷ y ∷ z ∷ u ∷ us)
+              fits-four : isLater u ≡ true → (us : List ℕ) → Fitted us → FitsBehind b3 b2 b1 (x ∷ y ∷ z ∷ u ∷ us)
               fits-four v us f =
                   let e : stands x y z u ≡ true = fourth-is ∙ v in
                   let n = standingFrom y z u us in
@@ -320,11 +319,11 @@ module _ (b3 b2 b1 x : ℕ) (h : b1 < 0xC0) (i : b2 < 0xE0) (j : b3 < 0xF0) wher
 
             from-four : (zs : List ℕ) → ((k : ℕ) → Fitted (drop k zs)) → FitsBehind b3 b2 b1 (x ∷ y ∷ z ∷ zs)
             from-four [] f = fits-three-ended
-            from-four (u ∷ us) f = split (later u) (λ v. fits-four u v us (f 1)) (λ v. fits-three-stopped u v us)
+            from-four (u ∷ us) f = split (isLater u) (λ v. fits-four u v us (f 1)) (λ v. fits-three-stopped u v us)
 
         from-three : (ys : List ℕ) → ((k : ℕ) → Fitted (drop k ys)) → FitsBehind b3 b2 b1 (x ∷ y ∷ ys)
         from-three [] f = fits-two-ended
-        from-three (z ∷ zs) f = split (later z)
+        from-three (z ∷ zs) f = split (isLater z)
             (λ t. under x 0xF0 (λ l. fits-three z t l zs (f 1)) (λ q. from-four z t q zs (λ k. f (suc k))))
             (λ t. fits-two-stopped z t zs)
 

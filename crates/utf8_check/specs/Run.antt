@@ -1,5 +1,4 @@
 -- The longest beginning of a byte text that is made of whole segments.
--- Assumes nothing.
 use Prim.Native.Nat.{ℕ}
 use mathlib.Core.List.{List, [], _∷_}
 use lib.ListN.{length}

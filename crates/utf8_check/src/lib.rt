@@ -3,16 +3,17 @@ use terms::Checked;
 use terms::Decoder;
 use terms::Refusal;
 ghost use mathlib.Core.Path.{_≡_};
-ghost use Rattle.terms.specs.Told.{checked};
+ghost use Rattle.terms.specs.Told.{toldChecked};
 ghost use Rattle.terms.specs.Strict.{checkSays};
 ghost use Rattle.utf8.specs.Bytes.{bytes};
 ghost use Rattle.utf8_check.specs.Run.{wholeRun};
 
 mod pace;
 
-pub use pace::CALM;
-pub use pace::calm_behind;
-pub use pace::calm_run;
+pub use pace::Pace;
+pub use pace::pace_behind;
+pub use pace::paced_run;
+pub use pace::wait_behind;
 
 // How many bytes come before the first damage? All of them, where there is none.
 pub fn whole_run(text: &[u8]) -> usize
@@ -24,7 +25,7 @@ pub fn whole_run(text: &[u8]) -> usize
 
 // Is a text well-formed? If not, its first damage is told.
 pub fn check(text: &[u8]) -> Checked
-    ensures { λ r. ⌜ checked r ≡ checkSays bytes (now (text .entry)) ⌝ }
+    ensures { λ r. ⌜ toldChecked r ≡ checkSays bytes (now (text .entry)) ⌝ }
 {
     if Decoder::LIMIT < text.len() {
         return Checked::Refused(Refusal::OverLimit);

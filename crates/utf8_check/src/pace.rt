@@ -1,36 +1,58 @@
-// The pace of a walk over a byte text: runs of whole segments are looked for where the text is calm, so that dense damage is
-// read segment by segment. No answer depends on it.
+// The pace of a walk over a byte text: runs of whole segments are passed over at once, and where they are short, segments are read
+// one by one for a while, so that dense damage is not slowed. No answer depends on it.
 ghost use mathlib.Core.Path.{_≡_};
-ghost use mathlib.Core.Bool.{cond};
-ghost use lib.Dec.{ltb};
-ghost use Rattle.utf8_check.specs.Run.{wholeRun};
-ghost use Rattle.utf8_check.specs.Calm.{calmBehind};
+ghost use Rattle.utf8_check.specs.Pace.{waitBehind, pacedRun, paceBehind};
 
-// How calm a text is before anything of it was read.
-pub const CALM: usize = 8;
+// How many segments are still read one by one, and how many were to be read behind the last run.
+pub struct Pace {
+    pub left: usize,
+    pub wait: usize,
+}
 
-// The whole segments at the start of a text that is calm; else none of them.
-pub fn calm_run(text: &[u8], calm: usize) -> usize
-    ensures { λ r. ⌜ r ≡ cond (ltb calm 8) 0 (wholeRun (now (text .entry))) ⌝ }
+impl Pace {
+    // The pace before anything was read: a run is looked for at once.
+    pub const START: Pace = Pace { left: 0, wait: 1 };
+}
+
+// How many segments are read one by one behind a run: one, or twice as many as behind the last one where it was short.
+pub fn wait_behind(wait: usize, run: usize) -> usize
+    ensures { λ r. ⌜ r ≡ waitBehind wait run ⌝ }
 {
-    if calm < CALM {
+    if 16 <= run {
+        return 1;
+    }
+    if 1024 <= wait {
+        return 1024;
+    }
+    2 * wait
+}
+
+// How many bytes of a text are passed over at once: its whole run, or none where segments are read one by one.
+pub fn paced_run(text: &[u8], pace: Pace) -> usize
+    ensures { λ r. ⌜ r ≡ pacedRun (now (text .entry)) pace ⌝ }
+{
+    if 0 < pace.left {
         return 0;
     }
     crate::whole_run(text)
 }
 
-// How calm a text is behind one segment more: a long run in front of it is calm, and a damage undoes five others.
-pub fn calm_behind(calm: usize, run: usize, damaged: bool) -> usize
-    ensures { λ r. ⌜ r ≡ calmBehind calm run damaged ⌝ }
+// The pace behind a run and one segment more.
+pub fn pace_behind(pace: Pace, run: usize) -> Pace
+    ensures { λ r. ⌜ r ≡ paceBehind pace run ⌝ }
 {
-    if 16 <= run {
-        return 10;
+    if 0 < pace.left {
+        return Pace {
+            left: pace.left - 1,
+            wait: pace.wait,
+        };
     }
-    if damaged {
-        return if calm < 5 { 0 } else { calm - 5 };
+    let wait = wait_behind(pace.wait, run);
+    if wait == 0 {
+        return Pace::START;
     }
-    if calm < CALM {
-        return calm + 1;
+    Pace {
+        left: wait - 1,
+        wait,
     }
-    calm
 }

@@ -1,5 +1,4 @@
 -- How pending bytes are tested, and kept in their places.
--- Assumes nothing.
 use mathlib.Core.Path.{_≡_, refl, sym, ap, _∙_}
 use Prim.Native.Nat.{ℕ, _+_, _-_, min, _≤_, _<_}
 use native.Mathlib.Decide.{decLe}

@@ -1,5 +1,4 @@
 -- The seam of what is pending and a piece: its first segment is that of both, and reaches over all that is pending.
--- Assumes nothing.
 use mathlib.Core.Path.{_≡_, refl, sym, ap, _∙_}
 use Prim.Native.Nat.{ℕ, _+_, _-_, _≤_}
 use mathlib.Core.Bool.{true, false}
@@ -17,13 +16,13 @@ use Rattle.theory.proofs.Divisions.{before, pending-short}
 use Rattle.terms.specs.Limits.{mostPending}
 use Rattle.utf8.specs.Bytes.{bytes}
 use Rattle.utf8.proofs.RowsOfBytes.{bytes-division, bytes-hold, bytes-top}
-use Rattle.utf8_pending.specs.Tail.{settled, four}
+use Rattle.utf8_pending.specs.Tail.{firstSettled, four}
 use Rattle.utf8_pending.proofs.SettledFirst.{settled-sure, settled-open, one-size, settled-parts, settled-inside, settled-none, pending-none}
 
 -- ---- the first segment of a text is that of its first four bytes
 
 module _ (x : ℕ) (xs : List ℕ) where
-  four-sure : bytes x (take 3 xs) .sure ≡ true → settled (x ∷ take 3 xs) ≡ settled (x ∷ xs)
+  four-sure : bytes x (take 3 xs) .sure ≡ true → firstSettled (x ∷ take 3 xs) ≡ firstSettled (x ∷ xs)
   four-sure e =
       let l : bytes x xs ≡ bytes x (take 3 xs) = rw take-append-drop at (bytes-division .stable x (take 3 xs) (drop 3 xs) e) in
       let f : reader.first bytes x xs ≡ reader.first bytes x (take 3 xs)
@@ -31,19 +30,19 @@ module _ (x : ℕ) (xs : List ℕ) where
       ∙ rw (take-take (bytes x (take 3 xs) .more) 3 xs (bytes-top x (take 3 xs))) in
       settled-sure x (take 3 xs) e ∙ sym (settled-sure x xs (ap (λ (k : Look Kind). k .sure) l ∙ e) ∙ rw f)
 
-  four-open : bytes x (take 3 xs) .sure ≡ false → settled (x ∷ take 3 xs) ≡ settled (x ∷ xs)
+  four-open : bytes x (take 3 xs) .sure ≡ false → firstSettled (x ∷ take 3 xs) ≡ firstSettled (x ∷ xs)
   four-open e =
       let h : length xs ≤ 3 = omega (arith, bytes-hold .short x (take 3 xs) e, length-take 3 xs) in
       rw (take-all 3 xs h)
 
-pub four-settled : (text : List ℕ) → settled (take 4 text) ≡ settled text
+pub four-settled : (text : List ℕ) → firstSettled (take 4 text) ≡ firstSettled text
 four-settled [] = refl
 four-settled (x ∷ xs) = split (bytes x (take 3 xs) .sure) (four-sure x xs) (four-open x xs)
 
 -- ---- it reaches over what is pending, unless nothing is settled
 
-reaches : (tail piece : List ℕ) → pending bytes tail ≡ true → (total size (settled (tail ++ piece)) ≡ 0 → ⊥)
-    → length tail ≤ total size (settled (tail ++ piece))
+reaches : (tail piece : List ℕ) → pending bytes tail ≡ true → (total size (firstSettled (tail ++ piece)) ≡ 0 → ⊥)
+    → length tail ≤ total size (firstSettled (tail ++ piece))
 reaches [] piece p n = omega arith
 reaches (x ∷ xs) piece p n = split (bytes x (xs ++ piece) .sure)
     (λ e.
@@ -63,11 +62,11 @@ module _ (tail piece : List ℕ) (begins : pending bytes tail ≡ true) where
   seam = four tail piece
 
   abbrev taken : ℕ
-  taken = total size (settled seam)
+  taken = total size (firstSettled seam)
 
   -- nothing is settled: all of it is pending
   module _ (z : taken ≡ 0) where
-    none : total size (settled (tail ++ piece)) ≡ 0
+    none : total size (firstSettled (tail ++ piece)) ≡ 0
     none = rw (four-settled (tail ++ piece)) at z
 
     short : length (tail ++ piece) ≤ mostPending
@@ -81,7 +80,7 @@ module _ (tail piece : List ℕ) (begins : pending bytes tail ≡ true) where
 
   -- the segment at the seam is settled, and the piece goes on behind it
   module _ (some : taken ≡ 0 → ⊥) where
-    over : length tail ≤ total size (settled (tail ++ piece))
+    over : length tail ≤ total size (firstSettled (tail ++ piece))
     over = reaches tail piece begins (λ z. some (rw (four-settled (tail ++ piece)) z))
 
     pub seam-over : length tail ≤ taken
@@ -90,7 +89,7 @@ module _ (tail piece : List ℕ) (begins : pending bytes tail ≡ true) where
     pub seam-inside : taken - length tail ≤ length piece
     seam-inside = rw (four-settled (tail ++ piece)) (omega (arith, settled-inside (tail ++ piece), length-append tail piece))
 
-    pub seam-behind : parts bytes (tail ++ piece) ≡ before (settled seam) (parts bytes (drop (taken - length tail) piece))
+    pub seam-behind : parts bytes (tail ++ piece) ≡ before (firstSettled seam) (parts bytes (drop (taken - length tail) piece))
     seam-behind =
         settled-parts (tail ++ piece)
-        ∙ rw (drop-over tail piece (total size (settled (tail ++ piece))) over, four-settled (tail ++ piece))
+        ∙ rw (drop-over tail piece (total size (firstSettled (tail ++ piece))) over, four-settled (tail ++ piece))

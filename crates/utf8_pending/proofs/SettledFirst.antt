@@ -1,5 +1,4 @@
 -- The settled segment that stands first in a text: how the text divides behind it, and how many bytes the reader told of it.
--- Assumes nothing.
 use mathlib.Core.Path.{_≡_, refl, sym, ap, _∙_}
 use Prim.Native.Nat.{ℕ, suc, _≤_}
 use native.Mathlib.Nat.{add-zero}
@@ -14,48 +13,48 @@ use Rattle.theory.specs.Tally.{total, size}
 use Rattle.theory.proofs.Cases.{split}
 use Rattle.theory.proofs.Divisions.{before, first-size, parts-nil, parts-sure, parts-open, left-pending, pending-short}
 use Rattle.terms.specs.Limits.{mostPending}
-use Rattle.terms.specs.Told.{first, firstSays}
+use Rattle.terms.specs.Told.{toldFirst, firstSays}
 use Rattle.terms.specs.declared.First.{First}
 use Rattle.terms.specs.declared.First.the-variants.{Nothing, Whole, Damage, Begun}
 use Rattle.terms.proofs.WalkBySegments.{Seen, seen}
 use Rattle.utf8.specs.Bytes.{bytes}
 use Rattle.utf8.specs.Pending.{padded}
 use Rattle.utf8.proofs.RowsOfBytes.{bytes-division, bytes-hold}
-use Rattle.utf8_pending.specs.Tail.{settled, settledSize}
+use Rattle.utf8_pending.specs.Tail.{firstSettled, settledSize}
 use Rattle.utf8_pending.proofs.HeldInPlaces.{Tail, held-back, held-zeros}
 
 -- ---- how a text divides behind it
 
-pub settled-sure : (x : ℕ) (xs : List ℕ) → bytes x xs .sure ≡ true → settled (x ∷ xs) ≡ reader.first bytes x xs ∷ []
-unfolding settled
+pub settled-sure : (x : ℕ) (xs : List ℕ) → bytes x xs .sure ≡ true → firstSettled (x ∷ xs) ≡ reader.first bytes x xs ∷ []
+unfolding firstSettled
 settled-sure x xs e = rw e
 
-pub settled-open : (x : ℕ) (xs : List ℕ) → bytes x xs .sure ≡ false → settled (x ∷ xs) ≡ []
-unfolding settled
+pub settled-open : (x : ℕ) (xs : List ℕ) → bytes x xs .sure ≡ false → firstSettled (x ∷ xs) ≡ []
+unfolding firstSettled
 settled-open x xs e = rw e
 
-pub settled-nil : settled [] ≡ []
-unfolding settled
+pub settled-nil : firstSettled [] ≡ []
+unfolding firstSettled
 settled-nil = refl
 
 pub one-size : (x : ℕ) (xs : List ℕ) → total size (reader.first bytes x xs ∷ []) ≡ suc (bytes x xs .more)
 one-size x xs = add-zero (size (reader.first bytes x xs)) ∙ first-size bytes-division x xs
 
 -- the settled segment, and then the rest of the text
-pub settled-parts : (text : List ℕ) → parts bytes text ≡ before (settled text) (parts bytes (drop (total size (settled text)) text))
+pub settled-parts : (text : List ℕ) → parts bytes text ≡ before (firstSettled text) (parts bytes (drop (total size (firstSettled text)) text))
 settled-parts [] = rw (settled-nil)
 settled-parts (x ∷ xs) = split (bytes x xs .sure)
     (λ e. parts-sure bytes x xs e ∙ rw (settled-sure x xs e, one-size x xs))
     (λ e. rw (settled-open x xs e))
 
-pub settled-inside : (text : List ℕ) → total size (settled text) ≤ length text
+pub settled-inside : (text : List ℕ) → total size (firstSettled text) ≤ length text
 settled-inside [] = rw settled-nil (omega arith)
 settled-inside (x ∷ xs) = split (bytes x xs .sure)
     (λ e. rw (settled-sure x xs e, one-size x xs) (omega (arith, bytes-division .fits x xs)))
     (λ e. rw (settled-open x xs e) (omega arith))
 
 -- where nothing is settled, all of the text is left
-pub settled-none : (text : List ℕ) → total size (settled text) ≡ 0 → (settled text ≡ []) × (parts bytes text ≡ record { done = []; left = text })
+pub settled-none : (text : List ℕ) → total size (firstSettled text) ≡ 0 → (firstSettled text ≡ []) × (parts bytes text ≡ record { done = []; left = text })
 settled-none [] z = (settled-nil, parts-nil bytes)
 settled-none (x ∷ xs) z = split (bytes x xs .sure)
     (λ e. absurd (omega (arith, ap (total size) (settled-sure x xs e), one-size x xs)))
@@ -66,25 +65,25 @@ pub record One (text : List ℕ) : Type 0 where
   pub head : ℕ
   pub tail : List ℕ
   pub text-is : text ≡ head ∷ tail
-  pub settled-is : settled text ≡ reader.first bytes head tail ∷ []
-  pub size-is : total size (settled text) ≡ size (reader.first bytes head tail)
+  pub settled-is : firstSettled text ≡ reader.first bytes head tail ∷ []
+  pub size-is : total size (firstSettled text) ≡ size (reader.first bytes head tail)
 
-pub settled-some : (text : List ℕ) → (total size (settled text) ≡ 0 → ⊥) → One text
+pub settled-some : (text : List ℕ) → (total size (firstSettled text) ≡ 0 → ⊥) → One text
 settled-some [] z = absurd (z (rw settled-nil))
 settled-some (x ∷ xs) z = split (bytes x xs .sure)
     (λ e.
-    let s : settled (x ∷ xs) ≡ reader.first bytes x xs ∷ [] = settled-sure x xs e in
+    let s : firstSettled (x ∷ xs) ≡ reader.first bytes x xs ∷ [] = settled-sure x xs e in
     record { head = x; tail = xs; text-is = refl; settled-is = s; size-is = ap (total size) s ∙ add-zero (size (reader.first bytes x xs)) })
     (λ e. absurd (z (rw (settled-open x xs e))))
 
 -- a text may be pending exactly if nothing of it is settled
-pub pending-none : (text : List ℕ) → total size (settled text) ≡ 0 → pending bytes text ≡ true
+pub pending-none : (text : List ℕ) → total size (firstSettled text) ≡ 0 → pending bytes text ≡ true
 pending-none [] z = refl
 pending-none (x ∷ xs) z = split (bytes x xs .sure)
     (λ e. absurd (omega (arith, ap (total size) (settled-sure x xs e), one-size x xs)))
     (λ e. rw e)
 
-pub pending-some : (text : List ℕ) → (total size (settled text) ≡ 0 → ⊥) → pending bytes text ≡ false
+pub pending-some : (text : List ℕ) → (total size (firstSettled text) ≡ 0 → ⊥) → pending bytes text ≡ false
 pending-some [] z = absurd (z (rw settled-nil))
 pending-some (x ∷ xs) z = split (bytes x xs .sure)
     (λ e. rw e)
@@ -106,17 +105,17 @@ left-tail text = record {
 
 -- ---- what the reader told of it
 
-seen-size : (text : List ℕ) (n : ℕ) {kind : Kind} → Seen bytes text n kind true → n ≡ total size (settled text)
+seen-size : (text : List ℕ) (n : ℕ) {kind : Kind} → Seen bytes text n kind true → n ≡ total size (firstSettled text)
 seen-size text n s =
-    let e : settled text ≡ reader.first bytes (s .head) (s .tail) ∷ [] = rw (s .text-is) (settled-sure (s .head) (s .tail) (s .sure-is)) in
+    let e : firstSettled text ≡ reader.first bytes (s .head) (s .tail) ∷ [] = rw (s .text-is) (settled-sure (s .head) (s .tail) (s .sure-is)) in
     s .long-is ∙ sym (ap (total size) e ∙ one-size (s .head) (s .tail))
 
-pub told-size : (r : First) (text : List ℕ) → first r ≡ firstSays bytes text → settledSize r ≡ total size (settled text)
+pub told-size : (r : First) (text : List ℕ) → toldFirst r ≡ firstSays bytes text → settledSize r ≡ total size (firstSettled text)
 told-size Nothing [] e = rw settled-nil
 told-size Nothing (x ∷ xs) e = let z : _≡_ {A = ℕ} 0 1 = cc in absurd (omega arith)
 told-size (Whole n) text e = seen-size text n (seen bytes text n whole true e)
 told-size (Damage n) text e = seen-size text n (seen bytes text n damage true e)
 told-size (Begun n) text e =
     let s = seen bytes text n damage false e in
-    let z : settled text ≡ [] = rw (s .text-is) (settled-open (s .head) (s .tail) (s .sure-is)) in
+    let z : firstSettled text ≡ [] = rw (s .text-is) (settled-open (s .head) (s .tail) (s .sure-is)) in
     rw z

@@ -1,1 +1,2 @@
+-- The bytes that are pending between two pieces
 pub mod Tail

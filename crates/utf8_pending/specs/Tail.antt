@@ -1,5 +1,4 @@
 -- The bytes that are pending between two pieces: their test, the seam with the next piece, and what of a text is settled first.
--- Assumes nothing.
 use mathlib.Core.Path.{_≡_}
 use Prim.Native.Nat.{ℕ}
 use mathlib.Core.Bool.{Bool, cond, _&&_}
@@ -16,9 +15,9 @@ use Rattle.utf8.specs.Pending.{zeros}
 use Rattle.utf8_pending.specs.declared.Seam.{Seam}
 
 -- the segment that stands first in a text, if it is settled
-unfoldable pub settled : List ℕ → List (Segment Kind)
-settled [] = []
-settled (x ∷ xs) = cond (bytes x xs .sure) (first bytes x xs ∷ []) []
+unfoldable pub firstSettled : List ℕ → List (Segment Kind)
+firstSettled [] = []
+firstSettled (x ∷ xs) = cond (bytes x xs .sure) (first bytes x xs ∷ []) []
 
 -- how many bytes of a text are settled by what the reader told of it
 abbrev pub settledSize : First → ℕ

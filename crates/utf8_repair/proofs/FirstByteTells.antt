@@ -1,5 +1,4 @@
 -- The code point that stands first in a byte text, where its first byte tells it.
--- Assumes nothing.
 use mathlib.Core.Path.{_≡_, refl, sym, ap, _∙_}
 use Prim.Native.Nat.{ℕ, _%_, _≤_, _<_}
 use mathlib.Core.List.{List, [], _∷_}
@@ -15,7 +14,7 @@ use Rattle.utf8.specs.declared.Lead.the-variants.{Alone, Begins}
 use Rattle.utf8.proofs.RowsOfBytes.{at-row, at-none, first-alone, first-begun, bytes-division}
 
 module _ (text : List ℕ) (some : 0 < length text) where
-  -- a byte below 80 is its own number
+  -- a byte below 0x80 is its own number
   pub point-one : getD text 0 0 < 0x80 → getD text 0 0 ∷ 1 ∷ [] ≡ pointSays utf8 text
   unfolding rows
   point-one h =
@@ -25,7 +24,7 @@ module _ (text : List ℕ) (some : 0 < length text) where
       let e : a ≡ a % 0x80 = omega arith in
       ap (λ (c : ℕ). c ∷ 1 ∷ []) e ∙ says-of p 1 refl
 
-  -- from 80 to C1 no sequence begins
+  -- from 0x80 to 0xC1 no sequence begins
   pub point-alone : 0x80 ≤ getD text 0 0 → getD text 0 0 < 0xC2 → replacement ∷ 1 ∷ [] ≡ pointSays utf8 text
   unfolding rows
   point-alone l h =

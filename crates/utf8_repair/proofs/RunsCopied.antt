@@ -1,37 +1,30 @@
--- Runs of whole segments in the walks over a byte text: what is passed over at once, and what it writes.
--- Assumes nothing.
+-- Runs of whole segments in the walks over a byte text that is repaired: what they write is themselves.
 use mathlib.Core.Path.{_≡_, sym, _∙_}
 use Prim.Native.Nat.{ℕ, _+_, _-_, _≤_}
-use mathlib.Core.Bool.{cond}
 use mathlib.Core.List.{List, _++_}
-use lib.ListN.{length, take, drop, length-drop}
-use lib.Seq.{drop-drop, take-length, length-take-le}
-use lib.Dec.{ltb}
+use lib.ListN.{length, take, drop}
+use lib.Seq.{take-length, length-take-le}
 use native.Mathlib.Omega.{arith}
 use Rattle.theory.specs.Reader.{cut}
-use Rattle.theory.proofs.Cases.{split}
-use Rattle.theory.proofs.Divisions.{written-append}
-use Rattle.terms.specs.Form.{Form, repaired, pointOf, converted}
+use Rattle.terms.specs.Form.{repaired, converted}
 use Rattle.terms.proofs.ConvertsBack.{whole-none, repaired-same, repaired-converted}
-use Rattle.terms.proofs.WalkBySegments.{part-is}
 use Rattle.terms.proofs.WalkWrites.{Passed, left, Counted, summed-on, Wrote, lent, back, filled-room, filled-on}
 use Rattle.copy.proofs.Copied.{copied-whole}
 use Rattle.utf8.specs.Bytes.{bytes}
-use Rattle.utf8_check.specs.Run.{wholeRun}
 use Rattle.utf8.specs.Scalar.{utf8}
-use Rattle.utf8_check.proofs.RunDivides.{Run, run-none}
-use Rattle.utf8_check.proofs.StandingIsWhole.{run-at}
 use Rattle.utf8.proofs.FaithfulForm.{utf8-faithful}
+use Rattle.utf8_check.specs.Run.{wholeRun}
+use Rattle.utf8_check.specs.Pace.{pacedRun}
+use Rattle.utf8_check.specs.declared.pace.Pace.{Pace}
+use Rattle.utf8_check.proofs.RunDivides.{Run}
+use Rattle.utf8_check.proofs.RunsPassed.{run-there, passed-run}
+use Rattle.utf8_check.proofs.StandingIsWhole.{run-at}
 
--- what the first n bytes of a text write, where they are whole segments
-module _ (text : List ℕ) (n : ℕ) (r : Run text n) where
-  run-same : converted utf8 utf8 (take n text) ≡ take n text
-  run-same =
-      sym (repaired-converted utf8-faithful (take n text))
-      ∙ repaired-same utf8 (take n text) (whole-none 0 (cut bytes (take n text)) (r .all))
-
-  run-written : (G : Form) → converted utf8 G text ≡ converted utf8 G (take n text) ++ converted utf8 G (drop n text)
-  run-written G = rw (r .cuts) (written-append (λ s. G .write (pointOf utf8 s)) (cut bytes (take n text)) (cut bytes (drop n text)))
+-- the first n bytes of a text write themselves, where they are whole segments
+run-same : (text : List ℕ) (n : ℕ) → Run text n → converted utf8 utf8 (take n text) ≡ take n text
+run-same text n r =
+    sym (repaired-converted utf8-faithful (take n text))
+    ∙ repaired-same utf8 (take n text) (whole-none 0 (cut bytes (take n text)) (r .all))
 
 -- a text with no damage
 module _ (text : List ℕ) (n : ℕ) (e : n ≡ wholeRun text) (h : n ≡ length text) where
@@ -42,24 +35,12 @@ module _ (text : List ℕ) (n : ℕ) (e : n ≡ wholeRun text) (h : n ≡ length
       repaired-converted utf8-faithful text ∙ (rw t at (run-same text n r))
 
 -- what was told of `&text[at..]`, in the walk
-module _ (text : List ℕ) (at calm n : ℕ) (h : at ≤ length text)
-    (e : n ≡ cond (ltb calm 8) 0 (wholeRun (take (length text - at) (drop at text)))) where
-  pub run-there : Run (drop at text) n
-  run-there = split (ltb calm 8)
-      (λ t. let z : n ≡ 0 = rw t at e in rw z (run-none (drop at text)))
-      (λ t. run-at (drop at text) n (rw (t, part-is text at) at e))
-
-  pub run-inside : at + n ≤ length text
-  run-inside = omega (arith, run-there .inside, length-drop at text)
-
-  pub passed-run : (G : Form) → Passed (left utf8 G text) (length text) at n (converted utf8 G (take n (drop at text)))
-  passed-run G = record { inside = run-inside; same = run-written (drop at text) n run-there G ∙ rw (drop-drop n at text) }
-
+module _ (text : List ℕ) (at : ℕ) (pace : Pace) (n : ℕ) (h : at ≤ length text) (e : n ≡ pacedRun (take (length text - at) (drop at text)) pace) where
   pub passed-bytes : Passed (left utf8 utf8 text) (length text) at n (take n (drop at text))
-  passed-bytes = rw (run-same (drop at text) n run-there) at (passed-run utf8)
+  passed-bytes = rw (run-same (drop at text) n (run-there text at pace n h e)) at (passed-run text at pace n h e utf8)
 
   long : length (take n (drop at text)) ≡ n
-  long = length-take-le n (drop at text) (run-there .inside)
+  long = length-take-le n (drop at text) (run-there text at pace n h e .inside)
 
   pub counted-run : (total : ℕ) → Counted utf8 utf8 text at total → Counted utf8 utf8 text (at + n) (total + n)
   counted-run total c = rw long at (summed-on (left utf8 utf8 text) (length text) at total n (take n (drop at text)) c passed-bytes)

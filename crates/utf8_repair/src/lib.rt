@@ -3,19 +3,17 @@ use convert_point::Target;
 use terms::Decoder;
 use terms::Refusal;
 use terms::Written;
+use utf8_check::Pace;
 ghost use mathlib.Core.Path.{_≡_};
-ghost use mathlib.Core.Bool.{cond};
 ghost use mathlib.Core.List.{_++_};
 ghost use Prim.Native.Nat.{_≤_, _<_};
 ghost use lib.ListN.{length, take, drop};
-ghost use lib.Dec.{ltb};
 ghost use Rattle.terms.specs.Limits.{limit};
 ghost use Rattle.terms.specs.Form.{repaired, converted};
 ghost use Rattle.terms.specs.Writing.{Writes, roomed, repairSays};
-ghost use Rattle.utf8_check.specs.Run.{wholeRun};
 ghost use Rattle.utf8.specs.Scalar.{utf8};
 ghost use Rattle.convert_point.specs.Puts.{Puts};
-ghost use Rattle.convert_point.specs.Passes.{PassesTo};
+ghost use Rattle.convert_point.specs.Inside.Passes.{PassesTo};
 
 // How many bytes the repaired form has: runs of whole segments are counted at once.
 fn need_bytes(text: &[u8]) -> usize
@@ -24,9 +22,9 @@ fn need_bytes(text: &[u8]) -> usize
 {
     let mut at: usize = 0;
     let mut total: usize = 0;
-    let mut calm = utf8_check::CALM;
+    let mut pace = Pace::START;
     loop {
-        let run = utf8_check::calm_run(&text[at..], calm);
+        let run = utf8_check::paced_run(&text[at..], pace);
         total += run;
         at += run;
         if text.len() <= at {
@@ -35,51 +33,41 @@ fn need_bytes(text: &[u8]) -> usize
         let p = utf8::point(&text[at..]);
         total += convert_point::bytes_of(p.number);
         at += p.size;
-        calm = utf8_check::calm_behind(calm, run, p.number == 0xFFFD);
+        pace = utf8_check::pace_behind(pace, run);
     }
 }
 
-// How far one segment led: so many bytes are passed over, so many written, and so calm is the text behind it.
-pub struct Mended {
+// How far one segment led: so many bytes are passed over, and so many written.
+struct Mended {
     pub passed: usize,
     pub put: usize,
-    pub calm: usize,
 }
 
-// One segment: a first byte below C2 tells by itself what stands there.
-fn mend(text: &[u8], calm: usize, run: usize, out: &mut [u8]) -> Mended
+// The first segment, repaired: a first byte below 0xC2 tells by itself what stands there.
+fn mend(text: &[u8], out: &mut [u8]) -> Mended
     requires { ⌜ (0 < length (now text)) × (length (converted utf8 utf8 (now text)) ≤ length (now out)) ⌝ }
     ensures { λ r. ⌜ PassesTo utf8 utf8 (now (text .entry)) (now (out .entry)) (now (out .exit)) (r .passed) (r .put) ⌝ }
 {
     let a = text[0];
     if a < 0x80 {
         out[0] = a;
-        return Mended {
-            passed: 1,
-            put: 1,
-            calm: utf8_check::calm_behind(calm, run, false),
-        };
+        return Mended { passed: 1, put: 1 };
     }
     if a < 0xC2 {
         out[0] = 0xEF;
         out[1] = 0xBF;
         out[2] = 0xBD;
-        return Mended {
-            passed: 1,
-            put: 3,
-            calm: utf8_check::calm_behind(calm, run, true),
-        };
+        return Mended { passed: 1, put: 3 };
     }
     let p = utf8::point(text);
     let put = convert_point::put_bytes(out, p.number);
     Mended {
         passed: p.size,
         put,
-        calm: utf8_check::calm_behind(calm, run, p.number == 0xFFFD),
     }
 }
 
-// A run that is none is not copied.
+// The bytes of a run. Where damage is dense most runs are none, and not worth the call.
 fn copy_run(run: &[u8], out: &mut [u8])
     ensures { λ r. ⌜ now (out .exit)
         ≡ take (length (now (out .entry))) (now (run .entry)) ++ drop (length (now (run .entry))) (now (out .entry)) ⌝ }
@@ -90,16 +78,16 @@ fn copy_run(run: &[u8], out: &mut [u8])
     copy::copy(run, out);
 }
 
-// Runs of whole segments are copied at once.
+// The repaired form: runs of whole segments are copied at once.
 fn write_bytes(text: &[u8], out: &mut [u8]) -> usize
     requires { ⌜ length (converted utf8 utf8 (now text)) ≤ length (now out) ⌝ }
     ensures { λ r. ⌜ Puts (converted utf8 utf8 (now (text .entry))) (now (out .entry)) (now (out .exit)) r ⌝ }
 {
     let mut at: usize = 0;
     let mut done: usize = 0;
-    let mut calm = utf8_check::CALM;
+    let mut pace = Pace::START;
     loop {
-        let run = utf8_check::calm_run(&text[at..], calm);
+        let run = utf8_check::paced_run(&text[at..], pace);
         let end = at + run;
         copy_run(&text[at..end], &mut out[done..]);
         done += run;
@@ -107,14 +95,14 @@ fn write_bytes(text: &[u8], out: &mut [u8]) -> usize
         if text.len() <= at {
             return done;
         }
-        let m = mend(&text[at..], calm, run, &mut out[done..]);
+        let m = mend(&text[at..], &mut out[done..]);
         at += m.passed;
         done += m.put;
-        calm = m.calm;
+        pace = utf8_check::pace_behind(pace, run);
     }
 }
 
-// A text with no damage stays as it is.
+// A text with no damage stays as it is, and is not looked at a second time.
 fn repair_whole(text: &[u8], out: &mut [u8]) -> Written
     ensures { λ r. ⌜ Writes
         (roomed (length (now (out .entry))) (now (text .entry)))
@@ -131,7 +119,7 @@ fn repair_whole(text: &[u8], out: &mut [u8]) -> Written
     Written::Count(bytes)
 }
 
-// Whole segments as they are, U+FFFD for each damage.
+// The repaired form of a text: whole segments as they are, U+FFFD for each damage.
 pub fn repair(text: &[u8], out: &mut [u8]) -> Written
     ensures { λ r. ⌜ Writes
         (repairSays (length (now (out .entry))) (now (text .entry)) (repaired utf8 (now (text .entry))))

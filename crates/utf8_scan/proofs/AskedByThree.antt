@@ -1,10 +1,9 @@
 -- What the three bytes before a place ask for: how many of them wait, and when the byte behind them stands well.
--- Assumes nothing.
 use Prim.Native.Nat.{ℕ, _<_, _≤_}
 use mathlib.Core.Path.{_≡_}
 use mathlib.Core.Bool.{not}
 use borrow.Author.Tests.{le-leb, lt-leb}
-use Rattle.utf8_scan.specs.Stands.{later, second, stands, waiting}
+use Rattle.utf8_scan.specs.Stands.{isLater, second, stands, waiting}
 
 -- ---- how many bytes wait
 
@@ -32,14 +31,14 @@ module _ (b3 b2 b1 b0 : ℕ) where
   unfolding stands
   stands-second h = rw (le-leb 0xC0 b1 h)
 
-  pub stands-third : b1 < 0xC0 → 0xE0 ≤ b2 → stands b3 b2 b1 b0 ≡ later b0
+  pub stands-third : b1 < 0xC0 → 0xE0 ≤ b2 → stands b3 b2 b1 b0 ≡ isLater b0
   unfolding stands
   stands-third l h = rw (lt-leb 0xC0 b1 l, le-leb 0xE0 b2 h)
 
-  pub stands-fourth : b1 < 0xC0 → b2 < 0xE0 → 0xF0 ≤ b3 → stands b3 b2 b1 b0 ≡ later b0
+  pub stands-fourth : b1 < 0xC0 → b2 < 0xE0 → 0xF0 ≤ b3 → stands b3 b2 b1 b0 ≡ isLater b0
   unfolding stands
   stands-fourth l m h = rw (lt-leb 0xC0 b1 l, lt-leb 0xE0 b2 m, le-leb 0xF0 b3 h)
 
-  pub stands-first : b1 < 0xC0 → b2 < 0xE0 → b3 < 0xF0 → stands b3 b2 b1 b0 ≡ not (later b0)
+  pub stands-first : b1 < 0xC0 → b2 < 0xE0 → b3 < 0xF0 → stands b3 b2 b1 b0 ≡ not (isLater b0)
   unfolding stands
   stands-first l m h = rw (lt-leb 0xC0 b1 l, lt-leb 0xE0 b2 m, lt-leb 0xF0 b3 h)

@@ -1,5 +1,4 @@
 -- The parts of a lane's test, from bits to what they say of the bytes.
--- Assumes nothing.
 use Prim.Native.Nat.{ℕ, _<_, _≤_}
 use mathlib.Core.Path.{_≡_, refl, sym, ap, _∙_}
 use mathlib.Core.Bool.{Bool, true, false, cond, _&&_, _||_, true≢false}
@@ -9,9 +8,9 @@ use borrow.Author.Tests.{le-leb, lt-leb, lt-ltb, leb-true, ltb-true, eq-eqb, ne-
 use lib.Bits.{bitOr, bitAnd, bitXor, or-add-and, and-le-l, and-le-r, xor-add-and, xor-zero-r, or-lt}
 use lib.Dec.{leb, ltb, eqb}
 use Rattle.theory.proofs.Cases.{split, both, under}
-use Rattle.utf8_scan.specs.Stands.{later, lowOf, highOf, second, stands}
+use Rattle.utf8_scan.specs.Stands.{isLater, lowOf, highOf, second, stands}
 
--- ---- several tests in one: the bits together are below 80 where each is
+-- ---- several tests in one: the bits together are below 0x80 where each is
 
 pub or-left : (a b : ℕ) → bitOr a b < 0x80 → a < 0x80
 or-left a b h = omega (arith, or-add-and a b, and-le-r a b)
@@ -38,7 +37,7 @@ among-is b low high l h = rw (le-leb low b l, lt-ltb b high h)
 
 -- ---- the parts
 
-pub asked-is : (m b x : ℕ) (t : Bool) → m < 256 → t ≡ later b → x ≡ cond t 255 0 → bitXor m x < 0x80 → later b ≡ leb 0x80 m
+pub asked-is : (m b x : ℕ) (t : Bool) → m < 256 → t ≡ isLater b → x ≡ cond t 255 0 → bitXor m x < 0x80 → isLater b ≡ leb 0x80 m
 asked-is m b x true h e v w =
     let w′ : bitXor m 255 < 0x80 = rw v at w in
     sym e ∙ sym (le-leb 0x80 m (omega (arith, xor-add-and m 255, and-le-l m 255)))
@@ -116,7 +115,7 @@ second-is b x l h r e f =
       lt-ltb x (highOf b) (high-is b x (r .1) (e .upto) (f .upto)),
     )
 
-pub stands-is : (b3 b2 b1 b0 m : ℕ) → later b0 ≡ leb 0x80 m → (0xC0 ≤ b1 → 0x80 ≤ m) → (0xE0 ≤ b2 → 0x80 ≤ m) → (0xF0 ≤ b3 → 0x80 ≤ m)
+pub stands-is : (b3 b2 b1 b0 m : ℕ) → isLater b0 ≡ leb 0x80 m → (0xC0 ≤ b1 → 0x80 ≤ m) → (0xE0 ≤ b2 → 0x80 ≤ m) → (0xF0 ≤ b3 → 0x80 ≤ m)
     → (b1 < 0xC0 → b2 < 0xE0 → b3 < 0xF0 → m < 0x80) → (0xC0 ≤ b1 → 0xC2 ≤ b1) → b1 < 0xF5
     → (0x80 ≤ b0 → Bounds 0xE0 0xED 0xA0 b1 b0) → (0x80 ≤ b0 → Bounds 0xF0 0xF4 0x90 b1 b0) → stands b3 b2 b1 b0 ≡ true
 unfolding stands

@@ -1,5 +1,4 @@
 -- Going on from a place up to which a text stands well, byte by byte, to the first byte that does not.
--- Assumes nothing.
 use Prim.Native.Nat.{ℕ, zero, suc, _+_, _-_, _<_, _≤_}
 use native.Mathlib.Numerals.{add-one}
 use mathlib.Core.Path.{_≡_, refl, sym, ap, _∙_}
@@ -11,7 +10,7 @@ use lib.ListN.{length, drop, getD, drop-of-length-le}
 use lib.Seq.{drop-cons, getD-drop}
 use Rattle.theory.proofs.Cases.{under}
 use Rattle.utf8_scan.specs.Stands.{stands, standingFrom, standing, before}
-use Rattle.utf8_scan.specs.Blocks.{Stand, padded, Good}
+use Rattle.utf8_scan.specs.Inside.Blocks.{Stand, padded, Good}
 
 -- the byte before a place, as the text behind three zeros has it
 pub before-is : (text : List ℕ) (at i k : ℕ) → i + k ≡ 3 → before text at k ≡ getD (padded text) (at + i) 0

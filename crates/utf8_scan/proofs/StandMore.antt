@@ -1,5 +1,4 @@
 -- Bytes that stand well, one more or a block more, and what that says of the text.
--- Assumes nothing.
 use Prim.Native.Nat.{ℕ, zero, suc, _+_, _-_, _<_, _≤_}
 use mathlib.Core.Path.{_≡_, ap, _∙_, subst}
 use mathlib.Core.Bool.{true}
@@ -12,7 +11,7 @@ use lib.ListN.{length, take, drop, getD, length-drop}
 use lib.Seq.{drop-drop, getD-drop, take-all}
 use Rattle.theory.proofs.Cases.{under}
 use Rattle.utf8_scan.specs.Stands.{stands}
-use Rattle.utf8_scan.specs.Blocks.{StandsIn, Stand, Below, padded, Good}
+use Rattle.utf8_scan.specs.Inside.Blocks.{StandsIn, Stand, Below, padded, Good}
 use Rattle.utf8_scan.proofs.LaneTests.{or-left, or-right}
 
 -- ---- a byte more
@@ -33,19 +32,19 @@ StandTo t k m = (j : ℕ) → j < k → j < m → StandsIn (drop j t)
 pub stand-to-more : (t : List ℕ) (k m less : ℕ) → StandTo t k m → less ≤ m → (k < less → StandsIn (drop k t)) → StandTo t (k + 1) less
 stand-to-more t k m less f h g = below-more (λ (j : ℕ). j < less → StandsIn (drop j t)) k (λ j l i. f j l (omega arith)) g
 
--- ---- bytes below 80
+-- ---- bytes below 0x80
 
 pub below-up : (t : List ℕ) (n m bound : ℕ) → Below t n (suc m) → m < bound → Below t n bound
 below-up t n m bound h l k i = omega (arith, h k i)
 
-stands-plain : (b3 b2 b1 b0 : ℕ) → b3 < 0x80 → b2 < 0x80 → b1 < 0x80 → b0 < 0x80 → stands b3 b2 b1 b0 ≡ true
+stands-ascii : (b3 b2 b1 b0 : ℕ) → b3 < 0x80 → b2 < 0x80 → b1 < 0x80 → b0 < 0x80 → stands b3 b2 b1 b0 ≡ true
 unfolding stands
-stands-plain b3 b2 b1 b0 a b c d = rw (lt-leb 0xC0 b1 (omega arith), lt-leb 0xE0 b2 (omega arith), lt-leb 0xF0 b3 (omega arith), lt-leb 0x80 b0 d)
+stands-ascii b3 b2 b1 b0 a b c d = rw (lt-leb 0xC0 b1 (omega arith), lt-leb 0xE0 b2 (omega arith), lt-leb 0xF0 b3 (omega arith), lt-leb 0x80 b0 d)
 
-pub stand-plain : (t : List ℕ) (n : ℕ) → Below t (n + 3) 0x80 → Stand t n
-stand-plain t n h k l =
+pub stand-ascii : (t : List ℕ) (n : ℕ) → Below t (n + 3) 0x80 → Stand t n
+stand-ascii t n h k l =
     stands-at t k
-    (stands-plain (getD t k 0) (getD t (k + 1) 0) (getD t (k + 2) 0) (getD t (k + 3) 0)
+    (stands-ascii (getD t k 0) (getD t (k + 1) 0) (getD t (k + 2) 0) (getD t (k + 3) 0)
     (h k (omega arith)) (h (k + 1) (omega arith)) (h (k + 2) (omega arith)) (h (k + 3) (omega arith)))
 
 -- ---- a block more, which may overlap what went before
@@ -92,7 +91,7 @@ good-first text h a b c = record { inside = h; stand = go }
     go (suc (suc zero)) l = c
     go (suc (suc (suc k))) l = absurd (omega arith)
 
--- ---- bytes below 80 at the start of a text
+-- ---- bytes below 0x80 at the start of a text
 
 -- the bits of several bytes together are at least each of them
 pub below-or : (t : List ℕ) (k m : ℕ) → Below t k (suc m) → Below t (k + 1) (suc (bitOr m (getD t k 0)))
@@ -109,8 +108,8 @@ below-part text at n bound p q k l = under k at (p k) (λ h.
     ∙ ap (λ (i : ℕ). getD text i 0) (omega arith) in
     subst (λ (b : ℕ). b < bound) e (q (k - at) (omega arith)))
 
-pub good-plain : (text : List ℕ) (n : ℕ) → n ≤ length text → Below text n 0x80 → Good text n
-good-plain text n inside h = record { inside = inside; stand = stand-plain (padded text) n below }
+pub good-ascii : (text : List ℕ) (n : ℕ) → n ≤ length text → Below text n 0x80 → Good text n
+good-ascii text n inside h = record { inside = inside; stand = stand-ascii (padded text) n below }
   where
     below : Below (padded text) (n + 3) 0x80
     below zero l = omega arith

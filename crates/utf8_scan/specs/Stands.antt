@@ -1,5 +1,4 @@
 -- Whether a byte stands well behind the three before it: well-formedness as a test of four bytes in a row.
--- Assumes nothing.
 use Prim.Native.Nat.{ℕ, zero, suc, _-_}
 use mathlib.Core.Bool.{Bool, not, cond, _&&_, _||_}
 use mathlib.Core.List.{List, [], _∷_}
@@ -7,8 +6,8 @@ use lib.ListN.{getD}
 use lib.Dec.{leb, ltb, eqb}
 
 -- a later byte
-abbrev pub later : ℕ → Bool
-later b = leb 0x80 b && ltb b 0xC0
+abbrev pub isLater : ℕ → Bool
+isLater b = leb 0x80 b && ltb b 0xC0
 
 -- the second byte behind b1 is from the low one on, and below the high one
 abbrev pub lowOf : ℕ → ℕ
@@ -24,7 +23,7 @@ second b1 b0 = (leb 0xC2 b1 && ltb b1 0xF5) && (leb (lowOf b1) b0 && ltb b0 (hig
 -- b0 STANDS WELL behind b3, b2 and b1: as the second byte, where b1 begins a sequence; as a later byte, where b2 began one of
 -- three or more, or b3 one of four; and as no later byte elsewhere
 unfoldable pub stands : ℕ → ℕ → ℕ → ℕ → Bool
-stands b3 b2 b1 b0 = cond (leb 0xC0 b1) (second b1 b0) (cond (leb 0xE0 b2 || leb 0xF0 b3) (later b0) (not (later b0)))
+stands b3 b2 b1 b0 = cond (leb 0xC0 b1) (second b1 b0) (cond (leb 0xE0 b2 || leb 0xF0 b3) (isLater b0) (not (isLater b0)))
 
 -- how many bytes at the start of a text stand well behind these three
 abbrev pub standingFrom : ℕ → ℕ → ℕ → List ℕ → ℕ

@@ -5,8 +5,8 @@ ghost use mathlib.Core.Bool.{true, _&&_, _||_, cond};
 ghost use Prim.Native.Nat.{ℕ, suc, _-_, _<_, _≤_};
 ghost use lib.ListN.{length};
 ghost use lib.Dec.{leb};
-ghost use Rattle.utf8_scan.specs.Stands.{later, stands, standing};
-ghost use Rattle.utf8_scan.specs.Blocks.{Stand, Below, Good};
+ghost use Rattle.utf8_scan.specs.Stands.{isLater, stands, standing};
+ghost use Rattle.utf8_scan.specs.Inside.Blocks.{Stand, Below, Good};
 
 mod stands;
 
@@ -28,7 +28,7 @@ fn full(t: bool) -> u8
 
 // Below 0x80 only where b is a later byte exactly if must is 0x80 or more.
 fn asked(must: u8, b: u8) -> u8
-    ensures { λ r. ⌜ (r < 0x80 → later b ≡ leb 0x80 must) ⌝ }
+    ensures { λ r. ⌜ (r < 0x80 → isLater b ≡ leb 0x80 must) ⌝ }
 {
     must ^ full(crate::stands::among(b, 0x80, 0xC0))
 }
@@ -54,7 +54,7 @@ fn lane_two(b1: u8, b0: u8) -> u8
     asked(less(b1, 64), b0) | overlong(b1)
 }
 
-// The same behind b2 and b1, for bytes below 0xF0.
+// Below 0x80 only where b0 stands well behind b2 and b1, for bytes below 0xF0.
 fn lane_three(b2: u8, b1: u8, b0: u8) -> u8
     ensures { λ r. ⌜ (r < 0x80 → b1 < 0xF0 → b2 < 0xF0 → (b3 : ℕ) → b3 < 0xF0 → stands b3 b2 b1 b0 ≡ true) ⌝ }
 {
@@ -63,7 +63,7 @@ fn lane_three(b2: u8, b1: u8, b0: u8) -> u8
         | edge(b1 == 0xE0, b1 == 0xED, crate::stands::among(b0, 0x80, 0xA0))
 }
 
-// The same behind b3, b2 and b1, for any bytes.
+// Below 0x80 only where b0 stands well behind b3, b2 and b1, for any bytes.
 fn lane_four(b3: u8, b2: u8, b1: u8, b0: u8) -> u8
     ensures { λ r. ⌜ (r < 0x80 → stands b3 b2 b1 b0 ≡ true) ⌝ }
 {
@@ -74,13 +74,14 @@ fn lane_four(b3: u8, b2: u8, b1: u8, b0: u8) -> u8
         | edge(b1 == 0xF0, b1 == 0xF4, crate::stands::among(b0, 0x80, 0x90))
 }
 
+// At least both of them.
 fn larger(a: u8, b: u8) -> u8
     ensures { λ r. ⌜ (a ≤ r) × (b ≤ r) ⌝ }
 {
     if a < b { b } else { a }
 }
 
-// No byte of the first 131 is larger.
+// A byte that none of the first 131 is above.
 fn top(t: &[u8]) -> u8
     requires { ⌜ 131 ≤ length (now t) ⌝ }
     ensures { λ r. ⌜ Below (now (t .entry)) 131 (suc r) ⌝ }
@@ -104,7 +105,7 @@ fn right_two(t: &[u8]) -> bool
     e < 0x80
 }
 
-// The same for bytes below 0xF0.
+// Does each of the 128 bytes behind the first three stand well? For bytes below 0xF0.
 fn right_three(t: &[u8]) -> bool
     requires { ⌜ (131 ≤ length (now t)) × Below (now t) 131 0xF0 ⌝ }
     ensures { λ r. ⌜ (r ≡ true → Stand (now (t .entry)) 128) ⌝ }
@@ -116,7 +117,7 @@ fn right_three(t: &[u8]) -> bool
     e < 0x80
 }
 
-// The same for any bytes.
+// Does each of the 128 bytes behind the first three stand well? For any bytes.
 fn right_four(t: &[u8]) -> bool
     requires { ⌜ 131 ≤ length (now t) ⌝ }
     ensures { λ r. ⌜ (r ≡ true → Stand (now (t .entry)) 128) ⌝ }
@@ -128,7 +129,8 @@ fn right_four(t: &[u8]) -> bool
     e < 0x80
 }
 
-// The same, by the quickest of the three; not by the slowest where only low bytes are asked for.
+// Does each of the 128 bytes behind the first three stand well? By the quickest test; not by the slowest where only low bytes
+// are asked for.
 fn right(t: &[u8], low: bool) -> bool
     requires { ⌜ 131 ≤ length (now t) ⌝ }
     ensures { λ r. ⌜ (r ≡ true → Stand (now (t .entry)) 128) ⌝ }
@@ -149,13 +151,14 @@ fn right(t: &[u8], low: bool) -> bool
     right_four(t)
 }
 
+// At most both of them.
 fn smaller(a: u8, b: u8) -> u8
     ensures { λ r. ⌜ (r ≤ a) × (r ≤ b) ⌝ }
 {
     if a < b { a } else { b }
 }
 
-// A place, where the test there is not below 0x80.
+// A place where the test there is not below 0x80, and else one behind all places.
 fn place(e: u8, k: u8) -> u8
     ensures { λ r. ⌜ (k < r → e < 0x80) ⌝ }
 {
@@ -176,7 +179,7 @@ fn right_to(t: &[u8]) -> usize
     m as usize
 }
 
-// So many bytes of a text stand well, from a place up to which it does, by blocks of 128. There may be more.
+// So many bytes of a text stand well, by blocks of 128 from a place up to which they do. There may be more.
 fn wide_blocks(text: &[u8], from: usize, low: bool) -> usize
     requires { ⌜ (3 ≤ from) × Good (now text) from ⌝ }
     ensures { λ r. ⌜ (3 ≤ r) × Good (now (text .entry)) r ⌝ }
@@ -192,7 +195,7 @@ fn wide_blocks(text: &[u8], from: usize, low: bool) -> usize
     at
 }
 
-// The same by blocks of 16, as far as a bound.
+// So many bytes of a text stand well, by blocks of 16 from a place up to which they do as far as a bound. There may be more.
 fn slim_blocks(text: &[u8], from: usize, bound: usize) -> usize
     requires { ⌜ (3 ≤ from) × Good (now text) from ⌝ }
     ensures { λ r. ⌜ (3 ≤ r) × Good (now (text .entry)) r ⌝ }
@@ -212,7 +215,7 @@ fn slim_blocks(text: &[u8], from: usize, bound: usize) -> usize
     at
 }
 
-// The same, by wide blocks, where the slow test waits for some slim ones: damage may be near.
+// So many bytes of a text stand well: by wide blocks, where the slow test waits for some slim ones, as damage may be near.
 fn wider(text: &[u8], from: usize) -> usize
     requires { ⌜ (3 ≤ from) × Good (now text) from ⌝ }
     ensures { λ r. ⌜ Good (now (text .entry)) r ⌝ }
@@ -226,7 +229,7 @@ fn wider(text: &[u8], from: usize) -> usize
     slim_blocks(text, far, text.len())
 }
 
-// The same for a text of 19 bytes or more, with a last block over what is left.
+// So many bytes of a text of 19 or more stand well, with a last block over what is left. There may be more.
 fn shrinking(text: &[u8], from: usize) -> usize
     requires { ⌜ (3 ≤ from) × Good (now text) from × (19 ≤ length (now text)) ⌝ }
     ensures { λ r. ⌜ Good (now (text .entry)) r ⌝ }
@@ -243,7 +246,7 @@ fn shrinking(text: &[u8], from: usize) -> usize
 }
 
 // Are the first 64 bytes of a text all below 0x80?
-fn plain_wide(t: &[u8]) -> bool
+fn ascii_wide(t: &[u8]) -> bool
     requires { ⌜ 64 ≤ length (now t) ⌝ }
     ensures { λ r. ⌜ (r ≡ true → Below (now (t .entry)) 64 0x80) ⌝ }
 {
@@ -254,8 +257,8 @@ fn plain_wide(t: &[u8]) -> bool
     all < 0x80
 }
 
-// Are the first 16?
-fn plain_narrow(t: &[u8]) -> bool
+// Are the first 16 bytes of a text all below 0x80?
+fn ascii_narrow(t: &[u8]) -> bool
     requires { ⌜ 16 ≤ length (now t) ⌝ }
     ensures { λ r. ⌜ (r ≡ true → Below (now (t .entry)) 16 0x80) ⌝ }
 {
@@ -266,8 +269,8 @@ fn plain_narrow(t: &[u8]) -> bool
     all < 0x80
 }
 
-// Are the first 256?
-fn plain_vast(t: &[u8]) -> bool
+// Are the first 256 bytes of a text all below 0x80?
+fn ascii_vast(t: &[u8]) -> bool
     requires { ⌜ 256 ≤ length (now t) ⌝ }
     ensures { λ r. ⌜ (r ≡ true → Below (now (t .entry)) 256 0x80) ⌝ }
 {
@@ -279,12 +282,12 @@ fn plain_vast(t: &[u8]) -> bool
 }
 
 // So many bytes at the start of a text are below 0x80, by vast blocks. There may be more.
-fn plain_far(text: &[u8]) -> usize
+fn ascii_far(text: &[u8]) -> usize
     ensures { λ r. ⌜ (r ≤ length (now (text .entry))) × Below (now (text .entry)) r 0x80 ⌝ }
 {
     let mut at = 0;
     while 256 <= text.len() - at {
-        if !plain_vast(&text[at..]) {
+        if !ascii_vast(&text[at..]) {
             return at;
         }
         at += 256;
@@ -292,31 +295,31 @@ fn plain_far(text: &[u8]) -> usize
     at
 }
 
-// The same by wide blocks, and vast ones behind each of them.
-fn plain_start(text: &[u8]) -> usize
+// So many bytes at the start of a text are below 0x80, by wide blocks and vast ones behind each of them.
+fn ascii_start(text: &[u8]) -> usize
     ensures { λ r. ⌜ (r ≤ length (now (text .entry))) × Below (now (text .entry)) r 0x80 ⌝ }
 {
     let mut at = 0;
     while 64 <= text.len() - at {
-        if !plain_wide(&text[at..]) {
+        if !ascii_wide(&text[at..]) {
             return at;
         }
         at += 64;
-        at += plain_far(&text[at..]);
+        at += ascii_far(&text[at..]);
     }
     at
 }
 
-// The same, and by narrow blocks behind the wide ones where none of these stopped it.
-fn plain(text: &[u8]) -> usize
+// So many bytes at the start of a text are below 0x80, also by narrow blocks where no wide one stopped it.
+fn ascii(text: &[u8]) -> usize
     ensures { λ r. ⌜ (r ≤ length (now (text .entry))) × Below (now (text .entry)) r 0x80 ⌝ }
 {
-    let mut at = plain_start(text);
+    let mut at = ascii_start(text);
     if 64 <= text.len() - at {
         return at;
     }
     while 16 <= text.len() - at {
-        if !plain_narrow(&text[at..]) {
+        if !ascii_narrow(&text[at..]) {
             return at;
         }
         at += 16;
@@ -324,16 +327,16 @@ fn plain(text: &[u8]) -> usize
     at
 }
 
-// The same for a text of 16 bytes or more, with a last block over what is left.
-fn plain_all(text: &[u8]) -> usize
+// So many bytes at the start of a text of 16 or more are below 0x80, with a last block over what is left.
+fn ascii_all(text: &[u8]) -> usize
     requires { ⌜ 16 ≤ length (now text) ⌝ }
     ensures { λ r. ⌜ (r ≤ length (now (text .entry))) × Below (now (text .entry)) r 0x80 ⌝ }
 {
     let n = text.len();
-    let at = plain(text);
+    let at = ascii(text);
     if n - at < 16 {
         let a = n - 16;
-        if plain_narrow(&text[a..]) {
+        if ascii_narrow(&text[a..]) {
             return n;
         }
     }
@@ -364,7 +367,7 @@ fn sure(text: &[u8]) -> usize
     if n < 19 {
         return 0;
     }
-    let at = plain_all(text);
+    let at = ascii_all(text);
     if at == n {
         return n;
     }
@@ -377,7 +380,7 @@ fn sure(text: &[u8]) -> usize
     shrinking(text, 3)
 }
 
-// Goes on byte by byte from a place up to which a text stands well.
+// How many bytes at the start of a text stand well: byte by byte from a place up to which they do.
 fn onward(text: &[u8], from: usize) -> usize
     requires { ⌜ Good (now text) from ⌝ }
     ensures { λ r. ⌜ r ≡ standing (now (text .entry)) ⌝ }

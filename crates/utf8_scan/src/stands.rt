@@ -11,6 +11,7 @@ pub(crate) fn among(b: u8, low: u8, high: u8) -> bool
     low <= b && b < high
 }
 
+// The lowest byte that may stand second behind b.
 fn low_of(b: u8) -> u8
     ensures { λ r. ⌜ r ≡ lowOf b ⌝ }
 {
@@ -20,6 +21,7 @@ fn low_of(b: u8) -> u8
     if b == 0xF0 { 0x90 } else { 0x80 }
 }
 
+// The bytes that may stand second behind b are below this one.
 fn high_of(b: u8) -> u8
     ensures { λ r. ⌜ r ≡ highOf b ⌝ }
 {

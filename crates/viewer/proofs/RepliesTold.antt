@@ -1,5 +1,4 @@
 -- The viewer's numbers from what the calls told.
--- Assumes nothing.
 use mathlib.Core.Path.{_≡_, refl}
 use Prim.Native.Nat.{ℕ, _+_, _*_, _-_, _≤_}
 use mathlib.Core.Bool.{false}
@@ -13,7 +12,7 @@ use Rattle.theory.specs.Tally.{Entry}
 use Rattle.theory.proofs.Cases.{split}
 use Rattle.terms.specs.Limits.{limit}
 use Rattle.terms.specs.Strict.{damages, checkSays}
-use Rattle.terms.specs.Told.{refusal}
+use Rattle.terms.specs.Told.{toldRefusal}
 use Rattle.terms.specs.declared.Refusal.{Refusal}
 use Rattle.terms.proofs.ToldBack.{no-zero}
 use Rattle.terms.proofs.WalkBySegments.{damage-within}
@@ -21,17 +20,17 @@ use Rattle.utf8.specs.Bytes.{bytes}
 use Rattle.viewer.specs.Replies.{largest, Small, checkNumber, repairNumber}
 
 module _ (r : Refusal) where
-  pub reply-damaged : getD (refusal r) 0 0 ≡ 1 → 4 * getD (refusal r) 1 0 + getD (refusal r) 2 0 ≡ checkNumber (refusal r)
+  pub reply-damaged : getD (toldRefusal r) 0 0 ≡ 1 → 4 * getD (toldRefusal r) 1 0 + getD (toldRefusal r) 2 0 ≡ checkNumber (toldRefusal r)
   reply-damaged e = rw e
 
-  pub reply-other : (getD (refusal r) 0 0 ≡ 1 → ⊥) → largest ≡ checkNumber (refusal r)
-  reply-other e = rw (no-zero r, ne-eqb (getD (refusal r) 0 0) 1 e)
+  pub reply-other : (getD (toldRefusal r) 0 0 ≡ 1 → ⊥) → largest ≡ checkNumber (toldRefusal r)
+  reply-other e = rw (no-zero r, ne-eqb (getD (toldRefusal r) 0 0) 1 e)
 
-  pub reply-room : getD (refusal r) 0 0 ≡ 3 → largest - 1 ≡ repairNumber (refusal r)
+  pub reply-room : getD (toldRefusal r) 0 0 ≡ 3 → largest - 1 ≡ repairNumber (toldRefusal r)
   reply-room e = rw e
 
-  pub reply-over : (getD (refusal r) 0 0 ≡ 3 → ⊥) → largest ≡ repairNumber (refusal r)
-  reply-over e = rw (no-zero r, ne-eqb (getD (refusal r) 0 0) 3 e)
+  pub reply-over : (getD (toldRefusal r) 0 0 ≡ 3 → ⊥) → largest ≡ repairNumber (toldRefusal r)
+  reply-over e = rw (no-zero r, ne-eqb (getD (toldRefusal r) 0 0) 3 e)
 
 -- what the check refuses is small
 abbrev SmallNumbers : List ℕ → Type 0
@@ -46,5 +45,5 @@ small-says text = split (ltb limit (length text)) (λ t. rw t (omega arith)) (λ
         let w = damage-within bytes text (d .start) (d .long) (rw (t, e)) in
         rw (t, e) (omega arith)
 
-pub small : (text : List ℕ) (r : Refusal) → refusal r ≡ checkSays bytes text → Small r
+pub small : (text : List ℕ) (r : Refusal) → toldRefusal r ≡ checkSays bytes text → Small r
 small text r e = rw e (small-says text)

@@ -1,5 +1,4 @@
 -- The viewer's numbers, which stand for the refusal numbers.
--- Assumes nothing.
 use mathlib.Core.Path.{_≡_}
 use Prim.Native.Nat.{ℕ, _+_, _*_, _-_, _≤_}
 use mathlib.Core.Bool.{cond}
@@ -8,7 +7,7 @@ use lib.ListN.{length, getD}
 use lib.Dec.{eqb}
 use Rattle.terms.specs.Form.{repaired}
 use Rattle.terms.specs.Limits.{limit}
-use Rattle.terms.specs.Told.{refusal}
+use Rattle.terms.specs.Told.{toldRefusal}
 use Rattle.terms.specs.declared.Refusal.{Refusal}
 use Rattle.terms.specs.Strict.{checkSays}
 use Rattle.terms.specs.Writing.{repairSays, outputOf}
@@ -28,7 +27,7 @@ checkReply text = checkNumber (checkSays bytes text)
 
 -- a damage of a text within the limit
 abbrev pub Small : Refusal → Type 0
-Small r = (getD (refusal r) 1 0 ≤ limit) × (getD (refusal r) 2 0 ≤ limit)
+Small r = (getD (toldRefusal r) 1 0 ≤ limit) × (getD (toldRefusal r) 2 0 ≤ limit)
 
 -- repair: the bytes written, the largest on 2, one less on 3
 abbrev pub repairNumber : List ℕ → ℕ

@@ -3,7 +3,7 @@ use terms::Checked;
 use terms::Refusal;
 use terms::Written;
 ghost use mathlib.Core.Path.{_≡_};
-ghost use Rattle.terms.specs.Told.{refusal};
+ghost use Rattle.terms.specs.Told.{toldRefusal};
 ghost use Rattle.viewer.specs.Replies.{Small, checkNumber, checkReply, repairNumber, Repairs};
 
 fn wide(n: usize) -> u64
@@ -15,10 +15,10 @@ fn wide(n: usize) -> u64
 // The check's reply for a refusal.
 fn refused(r: Refusal) -> u64
     requires { ⌜ Small r ⌝ }
-    ensures { λ n. ⌜ n ≡ checkNumber (refusal r) ⌝ }
+    ensures { λ n. ⌜ n ≡ checkNumber (toldRefusal r) ⌝ }
 {
     if r.number() == 1 {
-        return 4 * wide(r.first()) + wide(r.second());
+        return 4 * wide(r.first_value()) + wide(r.second_value());
     }
     0xFFFF_FFFF_FFFF_FFFF
 }
@@ -36,7 +36,7 @@ pub extern "C" fn moxandril_check(text: &[u8]) -> u64
 
 // Repair's reply for a refusal.
 fn unwritten(r: Refusal) -> u64
-    ensures { λ n. ⌜ n ≡ repairNumber (refusal r) ⌝ }
+    ensures { λ n. ⌜ n ≡ repairNumber (toldRefusal r) ⌝ }
 {
     if r.number() == 3 {
         return 0xFFFF_FFFF_FFFF_FFFE;

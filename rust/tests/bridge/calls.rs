@@ -36,53 +36,53 @@ pub type Cuts = unsafe extern "C" fn(*const u8, usize, usize) -> usize;
 #[link(name = "bridge_texts", kind = "static")]
 #[link(name = "bridge_places", kind = "static")]
 extern "C" {
-    pub fn bridge_utf8_segment(text: *const u8, n: usize, says: *mut usize, m: usize) -> usize;
-    pub fn bridge_utf16_segment(text: *const u16, n: usize, says: *mut usize, m: usize) -> usize;
-    pub fn bridge_code_points_segment(text: *const u32, n: usize, says: *mut usize, m: usize) -> usize;
-    pub fn bridge_utf8_point(text: *const u8, n: usize, says: *mut usize, m: usize) -> usize;
-    pub fn bridge_utf16_point(text: *const u16, n: usize, says: *mut usize, m: usize) -> usize;
-    pub fn bridge_code_points_point(text: *const u32, n: usize, says: *mut usize, m: usize) -> usize;
-    pub fn bridge_utf8_check(text: *const u8, n: usize, says: *mut usize, m: usize) -> usize;
-    pub fn bridge_utf16_check(text: *const u16, n: usize, says: *mut usize, m: usize) -> usize;
-    pub fn bridge_code_points_check(text: *const u32, n: usize, says: *mut usize, m: usize) -> usize;
+    pub fn bridge_bytes_segment(text: *const u8, n: usize, says: *mut usize, m: usize) -> usize;
+    pub fn bridge_units_segment(text: *const u16, n: usize, says: *mut usize, m: usize) -> usize;
+    pub fn bridge_points_segment(text: *const u32, n: usize, says: *mut usize, m: usize) -> usize;
+    pub fn bridge_bytes_point(text: *const u8, n: usize, says: *mut usize, m: usize) -> usize;
+    pub fn bridge_units_point(text: *const u16, n: usize, says: *mut usize, m: usize) -> usize;
+    pub fn bridge_points_point(text: *const u32, n: usize, says: *mut usize, m: usize) -> usize;
+    pub fn bridge_bytes_check(text: *const u8, n: usize, says: *mut usize, m: usize) -> usize;
+    pub fn bridge_units_check(text: *const u16, n: usize, says: *mut usize, m: usize) -> usize;
+    pub fn bridge_points_check(text: *const u32, n: usize, says: *mut usize, m: usize) -> usize;
 
     pub fn bridge_bytes_to_units(text: *const u8, n: usize, out: *mut u16, k: usize, says: *mut usize, m: usize) -> usize;
-    pub fn bridge_bytes_to_codes(text: *const u8, n: usize, out: *mut u32, k: usize, says: *mut usize, m: usize) -> usize;
+    pub fn bridge_bytes_to_points(text: *const u8, n: usize, out: *mut u32, k: usize, says: *mut usize, m: usize) -> usize;
     pub fn bridge_bytes_repair(text: *const u8, n: usize, out: *mut u8, k: usize, says: *mut usize, m: usize) -> usize;
     pub fn bridge_bytes_repair_to_units(text: *const u8, n: usize, out: *mut u16, k: usize, says: *mut usize, m: usize) -> usize;
     pub fn bridge_units_to_bytes(text: *const u16, n: usize, out: *mut u8, k: usize, says: *mut usize, m: usize) -> usize;
-    pub fn bridge_units_to_codes(text: *const u16, n: usize, out: *mut u32, k: usize, says: *mut usize, m: usize) -> usize;
+    pub fn bridge_units_to_points(text: *const u16, n: usize, out: *mut u32, k: usize, says: *mut usize, m: usize) -> usize;
     pub fn bridge_units_repair(text: *const u16, n: usize, out: *mut u16, k: usize, says: *mut usize, m: usize) -> usize;
     pub fn bridge_units_repair_to_bytes(text: *const u16, n: usize, out: *mut u8, k: usize, says: *mut usize, m: usize) -> usize;
-    pub fn bridge_code_points_to_bytes(text: *const u32, n: usize, out: *mut u8, k: usize, says: *mut usize, m: usize) -> usize;
-    pub fn bridge_code_points_to_units(text: *const u32, n: usize, out: *mut u16, k: usize, says: *mut usize, m: usize) -> usize;
+    pub fn bridge_points_to_bytes(text: *const u32, n: usize, out: *mut u8, k: usize, says: *mut usize, m: usize) -> usize;
+    pub fn bridge_points_to_units(text: *const u32, n: usize, out: *mut u16, k: usize, says: *mut usize, m: usize) -> usize;
 
     fn bridge_most(from: usize, to: usize, n: usize) -> usize;
-    fn bridge_decoder_most(n: usize) -> usize;
+    fn bridge_pieces_most(n: usize) -> usize;
     fn bridge_index_needed(long: usize) -> usize;
 
-    pub fn bridge_cut_bytes(text: *const u8, n: usize, most: usize) -> usize;
-    pub fn bridge_cut_units(text: *const u8, n: usize, most: usize) -> usize;
-    pub fn bridge_cut_points(text: *const u8, n: usize, most: usize) -> usize;
-    pub fn bridge_plain_byte(text: *const u8, n: usize, offset: usize, says: *mut usize, m: usize) -> usize;
-    pub fn bridge_plain_unit(text: *const u8, n: usize, offset: usize, says: *mut usize, m: usize) -> usize;
-    pub fn bridge_plain_point(text: *const u8, n: usize, offset: usize, says: *mut usize, m: usize) -> usize;
-    pub fn bridge_plain_line(text: *const u8, n: usize, offset: usize, says: *mut usize, m: usize) -> usize;
-    pub fn bridge_plain_resume(text: *const u8, n: usize, from: *const usize, f: usize, kind: usize, offset: usize, says: *mut usize, m: usize) -> usize;
-    pub fn bridge_plain_last(text: *const u8, n: usize, from: *const usize, f: usize, kind: usize, offset: usize, says: *mut usize, m: usize) -> usize;
-    pub fn bridge_index_byte(text: *const u8, n: usize, row: *const u32, k: usize, offset: usize, says: *mut usize, m: usize) -> usize;
-    pub fn bridge_index_unit(text: *const u8, n: usize, row: *const u32, k: usize, offset: usize, says: *mut usize, m: usize) -> usize;
-    pub fn bridge_index_point(text: *const u8, n: usize, row: *const u32, k: usize, offset: usize, says: *mut usize, m: usize) -> usize;
-    pub fn bridge_index_line(text: *const u8, n: usize, row: *const u32, k: usize, offset: usize, says: *mut usize, m: usize) -> usize;
+    pub fn bridge_places_cut_bytes(text: *const u8, n: usize, most: usize) -> usize;
+    pub fn bridge_places_cut_units(text: *const u8, n: usize, most: usize) -> usize;
+    pub fn bridge_places_cut_points(text: *const u8, n: usize, most: usize) -> usize;
+    pub fn bridge_places_at_byte(text: *const u8, n: usize, offset: usize, says: *mut usize, m: usize) -> usize;
+    pub fn bridge_places_at_unit(text: *const u8, n: usize, offset: usize, says: *mut usize, m: usize) -> usize;
+    pub fn bridge_places_at_point(text: *const u8, n: usize, offset: usize, says: *mut usize, m: usize) -> usize;
+    pub fn bridge_places_at_line(text: *const u8, n: usize, offset: usize, says: *mut usize, m: usize) -> usize;
+    pub fn bridge_places_resume(text: *const u8, n: usize, from: *const usize, f: usize, kind: usize, offset: usize, says: *mut usize, m: usize) -> usize;
+    pub fn bridge_places_last(text: *const u8, n: usize, from: *const usize, f: usize, kind: usize, offset: usize, says: *mut usize, m: usize) -> usize;
+    pub fn bridge_index_at_byte(text: *const u8, n: usize, row: *const u32, k: usize, offset: usize, says: *mut usize, m: usize) -> usize;
+    pub fn bridge_index_at_unit(text: *const u8, n: usize, row: *const u32, k: usize, offset: usize, says: *mut usize, m: usize) -> usize;
+    pub fn bridge_index_at_point(text: *const u8, n: usize, row: *const u32, k: usize, offset: usize, says: *mut usize, m: usize) -> usize;
+    pub fn bridge_index_at_line(text: *const u8, n: usize, row: *const u32, k: usize, offset: usize, says: *mut usize, m: usize) -> usize;
     fn bridge_index_audit(text: *const u8, n: usize, row: *const u32, k: usize) -> usize;
 
-    fn bridge_decoder_start(room: usize, state: *mut usize, k: usize, says: *mut usize, m: usize) -> usize;
-    fn bridge_decoder_feed(state: *mut usize, k: usize, piece: *const u8, n: usize, out: *mut u8, o: usize, list: *mut u32, l: usize, says: *mut usize, m: usize) -> usize;
-    fn bridge_decoder_finish(state: *mut usize, k: usize, out: *mut u8, o: usize, list: *mut u32, l: usize, says: *mut usize, m: usize) -> usize;
-    fn bridge_decoder_step(state: *mut usize, k: usize, b: u8) -> usize;
-    fn bridge_build_fresh(state: *mut usize, k: usize) -> usize;
-    fn bridge_build_feed(state: *mut usize, k: usize, piece: *const u8, n: usize, row: *mut u32, r: usize, says: *mut usize, m: usize) -> usize;
-    fn bridge_build_finish(state: *mut usize, k: usize, row: *mut u32, r: usize, says: *mut usize, m: usize) -> usize;
+    fn bridge_pieces_start(room: usize, state: *mut usize, k: usize, says: *mut usize, m: usize) -> usize;
+    fn bridge_pieces_feed(state: *mut usize, k: usize, piece: *const u8, n: usize, out: *mut u8, o: usize, list: *mut u32, l: usize, says: *mut usize, m: usize) -> usize;
+    fn bridge_pieces_finish(state: *mut usize, k: usize, out: *mut u8, o: usize, list: *mut u32, l: usize, says: *mut usize, m: usize) -> usize;
+    fn bridge_pieces_step(state: *mut usize, k: usize, b: u8) -> usize;
+    fn bridge_index_fresh(state: *mut usize, k: usize) -> usize;
+    fn bridge_index_feed(state: *mut usize, k: usize, piece: *const u8, n: usize, row: *mut u32, r: usize, says: *mut usize, m: usize) -> usize;
+    fn bridge_index_finish(state: *mut usize, k: usize, row: *mut u32, r: usize, says: *mut usize, m: usize) -> usize;
 
     fn bridge_pending_is_tail(held: *const usize, h: usize, n: usize) -> usize;
     fn bridge_pending_seam_of(held: *const usize, h: usize, n: usize, piece: *const u8, p: usize, says: *mut usize, m: usize) -> usize;
@@ -92,18 +92,18 @@ extern "C" {
 
 /// The lookups by measure.
 pub const PLAIN: [Looks; 4] = [
-    bridge_plain_byte,
-    bridge_plain_unit,
-    bridge_plain_point,
-    bridge_plain_line,
+    bridge_places_at_byte,
+    bridge_places_at_unit,
+    bridge_places_at_point,
+    bridge_places_at_line,
 ];
 pub const INDEXED: [Finds; 4] = [
-    bridge_index_byte,
-    bridge_index_unit,
-    bridge_index_point,
-    bridge_index_line,
+    bridge_index_at_byte,
+    bridge_index_at_unit,
+    bridge_index_at_point,
+    bridge_index_at_line,
 ];
-pub const CUT: [Cuts; 3] = [bridge_cut_bytes, bridge_cut_units, bridge_cut_points];
+pub const CUT: [Cuts; 3] = [bridge_places_cut_bytes, bridge_places_cut_units, bridge_places_cut_points];
 
 /// Places before and behind each lent part.
 pub const MARGIN: usize = 8;
@@ -202,7 +202,7 @@ pub fn most(from: usize, to: usize, n: usize) -> usize {
 }
 
 pub fn repair_most(n: usize) -> usize {
-    unsafe { bridge_decoder_most(n) }
+    unsafe { bridge_pieces_most(n) }
 }
 
 pub fn index_needed(long: usize) -> usize {
@@ -242,7 +242,7 @@ fn spare(n: usize) -> usize {
 
 pub fn repair_start(room: usize, before: [usize; 9]) -> (Told, Decoder) {
     let (t, n) = with_state(before, |p| {
-        told(|s, m| unsafe { bridge_decoder_start(room, p, spare(9), s, m) })
+        told(|s, m| unsafe { bridge_pieces_start(room, p, spare(9), s, m) })
     });
     (t, Decoder::of(n))
 }
@@ -256,7 +256,7 @@ pub fn repair_feed(
     let (o, k, l, j) = (out.as_mut_ptr(), out.len(), list.as_mut_ptr(), list.len());
     let (t, n) = with_state(state.numbers(), |p| {
         told(|s, m| unsafe {
-            bridge_decoder_feed(p, 9, piece.as_ptr(), piece.len(), o, k, l, j, s, m)
+            bridge_pieces_feed(p, 9, piece.as_ptr(), piece.len(), o, k, l, j, s, m)
         })
     });
     (t, Decoder::of(n))
@@ -265,21 +265,21 @@ pub fn repair_feed(
 pub fn repair_finish(state: Decoder, out: &mut [u8], list: &mut [u32]) -> (Told, Decoder) {
     let (o, k, l, j) = (out.as_mut_ptr(), out.len(), list.as_mut_ptr(), list.len());
     let (t, n) = with_state(state.numbers(), |p| {
-        told(|s, m| unsafe { bridge_decoder_finish(p, spare(9), o, k, l, j, s, m) })
+        told(|s, m| unsafe { bridge_pieces_finish(p, spare(9), o, k, l, j, s, m) })
     });
     (t, Decoder::of(n))
 }
 
 pub fn watch_step(state: Decoder, b: u8) -> (usize, Decoder) {
     let (t, n) = with_state(state.numbers(), |p| {
-        vec![unsafe { bridge_decoder_step(p, 9, b) }]
+        vec![unsafe { bridge_pieces_step(p, 9, b) }]
     });
     (t[0], Decoder::of(n))
 }
 
 pub fn build_fresh(before: [usize; 8]) -> (usize, Builder) {
     let (t, n) = with_state(before, |p| {
-        vec![unsafe { bridge_build_fresh(p, spare(8)) }]
+        vec![unsafe { bridge_index_fresh(p, spare(8)) }]
     });
     (t[0], Builder::of(n))
 }
@@ -287,7 +287,7 @@ pub fn build_fresh(before: [usize; 8]) -> (usize, Builder) {
 pub fn build_feed(state: Builder, piece: &[u8], row: &mut [u32]) -> (Told, Builder) {
     let (r, k) = (row.as_mut_ptr(), row.len());
     let (t, n) = with_state(state.numbers(), |p| {
-        told(|s, m| unsafe { bridge_build_feed(p, 8, piece.as_ptr(), piece.len(), r, k, s, m) })
+        told(|s, m| unsafe { bridge_index_feed(p, 8, piece.as_ptr(), piece.len(), r, k, s, m) })
     });
     (t, Builder::of(n))
 }
@@ -295,7 +295,7 @@ pub fn build_feed(state: Builder, piece: &[u8], row: &mut [u32]) -> (Told, Build
 pub fn build_finish(state: Builder, row: &mut [u32]) -> (Told, Builder) {
     let (r, k) = (row.as_mut_ptr(), row.len());
     let (t, n) = with_state(state.numbers(), |p| {
-        told(|s, m| unsafe { bridge_build_finish(p, spare(8), r, k, s, m) })
+        told(|s, m| unsafe { bridge_index_finish(p, spare(8), r, k, s, m) })
     });
     (t, Builder::of(n))
 }
@@ -340,27 +340,27 @@ pub fn too_short() -> Vec<usize> {
     let from = [0usize; 4];
     let replies = unsafe {
         vec![
-            bridge_decoder_start(2, p, 8, s, 8),
-            bridge_decoder_start(2, none, 0, s, 8),
-            bridge_decoder_start(2, p, 9, s, 7),
-            bridge_decoder_feed(p, 8, t, 4, o, 16, r, 16, s, 8),
-            bridge_decoder_feed(p, 9, t, 4, o, 16, r, 16, s, 7),
-            bridge_decoder_finish(p, 8, o, 16, r, 16, s, 8),
-            bridge_decoder_finish(p, 9, o, 16, r, 16, s, 0),
-            bridge_decoder_step(p, 8, 0x41),
-            bridge_build_fresh(p, 7),
-            bridge_build_feed(p, 7, t, 4, r, 16, s, 8),
-            bridge_build_feed(p, 8, t, 4, r, 16, s, 7),
-            bridge_build_finish(p, 7, r, 16, s, 8),
-            bridge_build_finish(p, 8, r, 16, s, 7),
+            bridge_pieces_start(2, p, 8, s, 8),
+            bridge_pieces_start(2, none, 0, s, 8),
+            bridge_pieces_start(2, p, 9, s, 7),
+            bridge_pieces_feed(p, 8, t, 4, o, 16, r, 16, s, 8),
+            bridge_pieces_feed(p, 9, t, 4, o, 16, r, 16, s, 7),
+            bridge_pieces_finish(p, 8, o, 16, r, 16, s, 8),
+            bridge_pieces_finish(p, 9, o, 16, r, 16, s, 0),
+            bridge_pieces_step(p, 8, 0x41),
+            bridge_index_fresh(p, 7),
+            bridge_index_feed(p, 7, t, 4, r, 16, s, 8),
+            bridge_index_feed(p, 8, t, 4, r, 16, s, 7),
+            bridge_index_finish(p, 7, r, 16, s, 8),
+            bridge_index_finish(p, 8, r, 16, s, 7),
             bridge_pending_is_tail(p, 2, 0),
             bridge_pending_seam_of(p, 2, 0, t, 4, s, 8),
             bridge_pending_seam_of(p, 3, 0, t, 4, s, 7),
             bridge_pending_hold(t, 4, s, 7),
-            bridge_plain_resume(t, 4, from.as_ptr(), 3, 0, 0, s, 8),
-            bridge_plain_last(t, 4, from.as_ptr(), 3, 0, 0, s, 8),
-            bridge_plain_resume(t, 4, from.as_ptr(), 4, 0, 0, s, 7),
-            bridge_plain_last(t, 4, from.as_ptr(), 4, 0, 0, s, 7),
+            bridge_places_resume(t, 4, from.as_ptr(), 3, 0, 0, s, 8),
+            bridge_places_last(t, 4, from.as_ptr(), 3, 0, 0, s, 8),
+            bridge_places_resume(t, 4, from.as_ptr(), 4, 0, 0, s, 7),
+            bridge_places_last(t, 4, from.as_ptr(), 4, 0, 0, s, 7),
         ]
     };
     assert_eq!(

@@ -80,10 +80,10 @@ pub fn of_bytes(run: &mut Run, text: &[u8]) {
     reading(
         run,
         text,
-        [bridge_utf8_segment, bridge_utf8_point, bridge_utf8_check],
+        [bridge_bytes_segment, bridge_bytes_point, bridge_bytes_check],
     );
     writing(run, bridge_bytes_to_units, text, &forms::strict(text));
-    writing(run, bridge_bytes_to_codes, text, &forms::strict(text));
+    writing(run, bridge_bytes_to_points, text, &forms::strict(text));
     writing(run, bridge_bytes_repair, text, &forms::repaired(text));
     writing(
         run,
@@ -99,13 +99,13 @@ pub fn of_units(run: &mut Run, text: &[u16]) {
         run,
         text,
         [
-            bridge_utf16_segment,
-            bridge_utf16_point,
-            bridge_utf16_check,
+            bridge_units_segment,
+            bridge_units_point,
+            bridge_units_check,
         ],
     );
     writing(run, bridge_units_to_bytes, text, &forms::strict(text));
-    writing(run, bridge_units_to_codes, text, &forms::strict(text));
+    writing(run, bridge_units_to_points, text, &forms::strict(text));
     writing(run, bridge_units_repair, text, &forms::repaired(text));
     writing(
         run,
@@ -122,13 +122,13 @@ pub fn of_codes(run: &mut Run, text: &[u32]) {
         run,
         text,
         [
-            bridge_code_points_segment,
-            bridge_code_points_point,
-            bridge_code_points_check,
+            bridge_points_segment,
+            bridge_points_point,
+            bridge_points_check,
         ],
     );
-    writing(run, bridge_code_points_to_bytes, text, &forms::strict(text));
-    writing(run, bridge_code_points_to_units, text, &forms::strict(text));
+    writing(run, bridge_points_to_bytes, text, &forms::strict(text));
+    writing(run, bridge_points_to_units, text, &forms::strict(text));
 }
 
 /// Every text of up to three interesting elements.
@@ -152,8 +152,8 @@ pub fn random(run: &mut Run) {
             untold(run, bridge_bytes_to_units, &text);
             untold(run, bridge_bytes_repair, &text);
             untold(run, bridge_units_to_bytes, &units);
-            untold(run, bridge_code_points_to_units, &codes);
-            assert_eq!(reads(bridge_utf8_check, &text, 7), [NOT_CALLED]);
+            untold(run, bridge_points_to_units, &codes);
+            assert_eq!(reads(bridge_bytes_check, &text, 7), [NOT_CALLED]);
         }
     }
 }

@@ -47,20 +47,20 @@ fn checking<T: Copy>(run: &mut Run, call: Reads<T>, good: T, bad: T, refusal: &[
 }
 
 pub fn conversions(run: &mut Run) {
-    checking(run, bridge_utf8_check, b'A', 0x80, &[1, LIMIT - 1, 1]);
-    checking(run, bridge_utf16_check, 0x4E00, 0xD800, &[1, LIMIT - 1, 1]);
-    checking(run, bridge_code_points_check, 0x1F686, 0xD800, &[9, LIMIT - 1]);
+    checking(run, bridge_bytes_check, b'A', 0x80, &[1, LIMIT - 1, 1]);
+    checking(run, bridge_units_check, 0x4E00, 0xD800, &[1, LIMIT - 1, 1]);
+    checking(run, bridge_points_check, 0x1F686, 0xD800, &[9, LIMIT - 1]);
     writing(run, bridge_bytes_to_units, b'A', &[0x41]);
-    writing(run, bridge_bytes_to_codes, b'A', &[0x41]);
+    writing(run, bridge_bytes_to_points, b'A', &[0x41]);
     writing(run, bridge_bytes_repair, b'A', b"A");
     writing(run, bridge_bytes_repair, 0x80, b"\xEF\xBF\xBD");
     writing(run, bridge_bytes_repair_to_units, 0x80, &[0xFFFD]);
     writing(run, bridge_units_to_bytes, 0x4E00, b"\xE4\xB8\x80");
-    writing(run, bridge_units_to_codes, 0x4E00, &[0x4E00]);
+    writing(run, bridge_units_to_points, 0x4E00, &[0x4E00]);
     writing(run, bridge_units_repair, 0xDC00, &[0xFFFD]);
     writing(run, bridge_units_repair_to_bytes, 0xDC00, b"\xEF\xBF\xBD");
-    writing(run, bridge_code_points_to_bytes, 0x1F686, b"\xF0\x9F\x9A\x86");
-    writing(run, bridge_code_points_to_units, 0x1F686, &[0xD83D, 0xDE86]);
+    writing(run, bridge_points_to_bytes, 0x1F686, b"\xF0\x9F\x9A\x86");
+    writing(run, bridge_points_to_units, 0x1F686, &[0xD83D, 0xDE86]);
 }
 
 /// The room of a list at the start.

@@ -76,7 +76,7 @@ fn onward(run: &mut Run, text: &[u8]) {
             last(rest, from, kind, offset),
         ];
     }
-    let calls: [Goes; 2] = [bridge_plain_resume, bridge_plain_last];
+    let calls: [Goes; 2] = [bridge_places_resume, bridge_places_last];
     let got = calls.map(|call| goes(call, rest, from, kind, offset));
     assert_eq!(
         got, expected,

@@ -20,7 +20,7 @@ struct Lent {
 
 #[link(name = "bridge_texts", kind = "static")]
 extern "C" {
-    fn bridge_decoder_watch(state: *mut Lent, b: u8) -> u32;
+    fn bridge_pieces_watch(state: *mut Lent, b: u8) -> u32;
 }
 
 impl Lent {
@@ -57,7 +57,7 @@ fn watch_all(run: &mut Run, from: Decoder, text: &[u8]) -> Decoder {
     let mut row = [guard, Lent::of(from), guard];
     for (i, &b) in text.iter().enumerate() {
         let before = row[1].state();
-        let reply = unsafe { bridge_decoder_watch(&mut row[1], b) };
+        let reply = unsafe { bridge_pieces_watch(&mut row[1], b) };
         let got = (reply as usize, row[1].state());
         let about = || format!("byte {i} of {text:02X?}, {before:?}");
         assert_eq!(got, before.watch(b), "{}", about());

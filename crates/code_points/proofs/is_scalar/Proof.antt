@@ -1,5 +1,4 @@
 -- `is_scalar` meets its contract: each way through its tests says which of the definition's tests hold.
--- Assumes nothing.
 use native.Mathlib.Omega.{arith}
 use borrow.Author.Tests.{lt-ltb, le-ltb}
 use Rattle.code_points.proofs.is_scalar.Statement.{statement}

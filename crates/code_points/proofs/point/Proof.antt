@@ -1,9 +1,8 @@
 -- `point` meets its contract: each arm is a law of `Pointing`, and a whole segment is one number.
--- Assumes nothing.
 use native.Mathlib.Omega.{arith}
 use borrow.Author.Needs.{needs}
 use Rattle.terms.proofs.PointTold.{Pointed, says-of, point-nothing, point-whole, point-damage, point-begun}
-use Rattle.code_points.specs.Points.{points, codes}
+use Rattle.code_points.specs.Points.{points, codePoints}
 use Rattle.code_points.proofs.CodePointsDivide.{points-division}
 use Rattle.code_points.proofs.point.Statement.{statement}
 use Rattle.code_points.proofs.point.Tie as tie
@@ -20,10 +19,10 @@ enum-known-n c = search needs
 -- a whole segment
 pointed : (c : tie.After-known-told)
     → let g = c .before .before .before in
-    Pointed codes (g .before .before .args .text .now) (c .before .n .given .0 .0)
+    Pointed codePoints (g .before .before .args .text .now) (c .before .n .given .0 .0)
 pointed c =
     let g = c .before .before .before in
-    point-whole codes points-division (g .before .before .args .text .now) _ (g .segment .ensures) _ (c .before .n .given .1)
+    point-whole codePoints points-division (g .before .before .args .text .now) _ (g .segment .ensures) _ (c .before .n .given .1)
 
 shared-slice-read-t8 : tie.Need-shared-slice-read-t8
 shared-slice-read-t8 c = let p = pointed (c .before) in omega (arith, p .some, p .inside)
@@ -37,7 +36,7 @@ enum-known-n-3 c = search needs
 returns : tie.Need-returns
 returns c =
     let g = c .before .before in
-    point-nothing codes points-division (g .before .before .args .text .now) _ (g .segment .ensures) (c .enum-told .given .1)
+    point-nothing codePoints points-division (g .before .before .args .text .now) _ (g .segment .ensures) (c .enum-told .given .1)
 
 returns-2 : tie.Need-returns-2
 unfolding points
@@ -46,12 +45,12 @@ returns-2 c = let p = pointed (c .before) in says-of p 1 (p .seen-as .long-is)
 returns-3 : tie.Need-returns-3
 returns-3 c =
     let g = c .before .before .before in
-    point-damage codes points-division (g .before .before .args .text .now) _ (g .segment .ensures) _ (c .before .n2 .given .1)
+    point-damage codePoints points-division (g .before .before .args .text .now) _ (g .segment .ensures) _ (c .before .n2 .given .1)
 
 returns-4 : tie.Need-returns-4
 returns-4 c =
     let g = c .before .before .before in
-    point-begun codes points-division (g .before .before .args .text .now) _ (g .segment .ensures) _ (c .before .n3 .given .1)
+    point-begun codePoints points-division (g .before .before .args .text .now) _ (g .segment .ensures) _ (c .before .n3 .given .1)
 
 pub point-spec : {M : Type 1} → statement M
 point-spec =

@@ -1,5 +1,4 @@
 -- `segment` meets its contract: whether the first number is a scalar value says all.
--- Assumes nothing.
 use mathlib.Core.Path.{sym, _∙_}
 use native.Mathlib.Omega.{arith}
 use borrow.Author.Needs.{needs}

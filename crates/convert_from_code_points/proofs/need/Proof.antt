@@ -1,11 +1,10 @@
 -- What is counted, and what the rest of the text takes, is the need.
--- Assumes nothing.
 use Prim.Native.Nat.{_-_, _*_, _≤_}
 use lib.ListN.{length}
 use native.Mathlib.Omega.{arith}
 use Rattle.terms.proofs.WalkWrites.{Met, met, Counted, counted-start, counted-next, counted-end}
-use Rattle.code_points.specs.Points.{codes}
-use Rattle.code_points.proofs.CodePointsDivide.{codes-faithful}
+use Rattle.code_points.specs.Points.{codePoints}
+use Rattle.code_points.proofs.CodePointsDivide.{points-faithful}
 use Rattle.convert_point.specs.Target.{formOf}
 use Rattle.convert_point.proofs.FourAtMost.{at-most-four}
 use borrow.Author.Needs.{needs}
@@ -13,13 +12,13 @@ use Rattle.convert_from_code_points.proofs.need.Statement.{statement}
 use Rattle.convert_from_code_points.proofs.need.Tie as tie
 
 abbrev Inv-loop : tie.InvT-loop
-Inv-loop text target at₀ total₀ at total = Counted codes (formOf target) text at total × (total ≤ 4 * at)
+Inv-loop text target at₀ total₀ at total = Counted codePoints (formOf target) text at total × (total ≤ 4 * at)
 
 abbrev μ-loop : tie.MeasureT-loop
 μ-loop text target at₀ total₀ at total = length text - at
 
 loop-holds : tie.Need-loop-holds Inv-loop μ-loop
-loop-holds c = (counted-start codes (formOf (c .before .args .target)) (c .before .args .text .now), omega arith)
+loop-holds c = (counted-start codePoints (formOf (c .before .args .target)) (c .before .args .text .now), omega arith)
 
 mul-point : tie.Need-mul-point Inv-loop μ-loop
 mul-point c = search needs
@@ -42,11 +41,11 @@ places-requires c κs = search needs
 -- the code point that was read
 here : (c : tie.After-point Inv-loop μ-loop)
     → let l = c .before .before .before in
-    Met codes (l .before .before .args .text .now) (l .loop .at) (c .point .result .size) (c .point .result .number)
+    Met codePoints (l .before .before .args .text .now) (l .loop .at) (c .point .result .size) (c .point .result .number)
 here c =
     let i = c .before .before in
     let l = i .before in
-    met codes-faithful (l .before .before .args .text .now) (l .loop .at) (i .loop-test .taken) _ _ (c .point .ensures)
+    met points-faithful (l .before .before .args .text .now) (l .loop .at) (i .loop-test .taken) _ _ (c .point .ensures)
 
 add-total : tie.Need-add-total Inv-loop μ-loop
 add-total c =
@@ -66,7 +65,7 @@ loop-again c =
     let l = p .before .before .before in
     let a = l .before .before .args in
     let m = here p in (
-      rw (q .places .ensures) (counted-next codes (formOf (a .target)) (a .text .now) (l .loop .at) (l .loop .total) _ _ (l .loop .inv .0) m),
+      rw (q .places .ensures) (counted-next codePoints (formOf (a .target)) (a .text .now) (l .loop .at) (l .loop .total) _ _ (l .loop .inv .0) m),
       omega (arith, l .loop .inv .1, q .places .ensures, at-most-four (a .target) (p .point .result .number), m .some),
     )
 
@@ -74,7 +73,7 @@ returns : tie.Need-returns Inv-loop μ-loop
 returns c =
     let l = c .before in
     let a = l .before .before .args in
-    counted-end codes (formOf (a .target)) (a .text .now) (l .loop .at) (l .loop .total) (l .loop .inv .0) (c .loop-test .left)
+    counted-end codePoints (formOf (a .target)) (a .text .now) (l .loop .at) (l .loop .total) (l .loop .inv .0) (c .loop-test .left)
 
 pub need-spec : {M : Type 1} → statement M
 need-spec =

@@ -1,5 +1,4 @@
--- A plain block is a pass, and so are the segments that are read where there is none.
--- Assumes nothing.
+-- A block of units that stand alone is a pass, and so are the segments that are read where there is none.
 use Rattle.convert_utf16_blocks.specs.Block.{block}
 use Rattle.convert_utf16_blocks.proofs.LowUnits.{block-is}
 use Rattle.convert_from_utf16.proofs.BlocksArePasses.{block-passes}

@@ -1,5 +1,4 @@
 -- What is counted is what the segments passed take.
--- Assumes nothing.
 use Prim.Native.Nat.{_+_, _-_}
 use lib.ListN.{length}
 use native.Mathlib.Omega.{arith}

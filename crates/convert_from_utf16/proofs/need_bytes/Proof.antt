@@ -1,5 +1,4 @@
 -- The passes made so far are one, and at the end it is the whole.
--- Assumes nothing.
 use mathlib.Core.Path.{ap, _∙_}
 use Prim.Native.Nat.{_+_, _-_}
 use lib.ListN.{length, length-drop}

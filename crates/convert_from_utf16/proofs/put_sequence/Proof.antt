@@ -1,5 +1,4 @@
 -- Each arm stores the sequence that its tests lead to.
--- Assumes nothing.
 use mathlib.Core.Path.{ap}
 use Prim.Native.Nat.{_≤_}
 use lib.ListN.{length, length-set}

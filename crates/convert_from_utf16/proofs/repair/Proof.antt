@@ -1,5 +1,4 @@
 -- Refusal 2, then 3, then the form is written.
--- Assumes nothing.
 use native.Mathlib.Omega.{arith}
 use Rattle.terms.specs.Form.{repaired}
 use Rattle.terms.proofs.AnswersWritten.{repair-over, repair-short, repair-done}

@@ -1,8 +1,7 @@
 -- The check's refusal, or what repair answers, as there is nothing to repair.
--- Assumes nothing.
 use mathlib.Core.Path.{refl, sym, ap, _∙_}
 use Rattle.terms.specs.Strict.{damaged}
-use Rattle.terms.specs.Told.{checked}
+use Rattle.terms.specs.Told.{toldChecked}
 use Rattle.terms.proofs.AnswersWritten.{strict-refused, strict-granted}
 use Rattle.utf16.specs.Scalar.{utf16}
 use Rattle.utf8.specs.Scalar.{utf8}
@@ -31,7 +30,7 @@ returns c =
     let t = r .before .before in
     let k = t .before .before in
     let a = k .before .before .before .args in
-    strict-granted damaged utf16 utf8 (a .text .now) (a .out .now) (λ e. refl) (ap checked (sym (t .enum-told .given .1)) ∙ k .check .ensures)
+    strict-granted damaged utf16 utf8 (a .text .now) (a .out .now) (λ e. refl) (ap toldChecked (sym (t .enum-told .given .1)) ∙ k .check .ensures)
     (r .repair-to-bytes .last .1 .0) (r .repair-to-bytes .result) (r .repair-to-bytes .ensures)
 
 returns-2 : tie.Need-returns-2
@@ -39,7 +38,7 @@ returns-2 c =
     let k = c .before .before .before in
     let a = k .before .before .before .args in
     strict-refused damaged utf16 utf8 (a .text .now) (a .out .now) (c .before .r .given .0 .0)
-    (ap checked (sym (c .before .r .given .1)) ∙ k .check .ensures)
+    (ap toldChecked (sym (c .before .r .given .1)) ∙ k .check .ensures)
 
 pub to-bytes-spec : {M : Type 1} → statement M
 to-bytes-spec =

@@ -1,5 +1,4 @@
 -- What is written, and what the rest of the text writes, is the form.
--- Assumes nothing.
 use mathlib.Core.Path.{ap, _∙_}
 use Prim.Native.Nat.{_+_, _-_}
 use lib.ListN.{length, length-drop}

@@ -1,5 +1,4 @@
--- A plain block is a pass, and so are the few units that are written where there is none.
--- Assumes nothing.
+-- A block of units that stand alone is a pass, and so is what is written where there is none.
 use mathlib.Core.Path.{_≡_, subst}
 use Prim.Native.Nat.{ℕ}
 use mathlib.Core.List.{List}
@@ -9,7 +8,7 @@ use Rattle.convert_utf16_blocks.specs.Block.{roomy}
 use Rattle.convert_utf16_blocks.proofs.LowUnits.{roomy-is}
 use Rattle.utf8.specs.Scalar.{utf8}
 use Rattle.utf16.specs.Scalar.{utf16}
-use Rattle.convert_point.specs.Passes.{PassesTo}
+use Rattle.convert_point.specs.Inside.Passes.{PassesTo}
 use Rattle.convert_from_utf16.proofs.BlocksArePasses.{block-passes-to, no-block}
 use borrow.Author.Needs.{needs}
 use Rattle.convert_from_utf16.proofs.write_part.Statement.{statement}
@@ -31,8 +30,8 @@ returns c =
     block-passes-to t (roomy room t) (roomy-is t room .0) (roomy-is t room .1) _ _ (p .counts .read-is) (p .counts .places-is) (c .if1 .taken)
     (a .out .now) (q .put-block .last .1 .0) (p .output)
 
-write-few-requires : tie.Need-write-few-requires
-write-few-requires c κs = search needs
+write-sixteen-requires : tie.Need-write-sixteen-requires
+write-sixteen-requires c κs = search needs
 
 same-length-2 : tie.Need-same-length-2
 same-length-2 c = search needs
@@ -46,7 +45,7 @@ returns-2 c =
     let p = q .put-block .ensures in
     let same : q .put-block .last .1 .0 ≡ a .out .now =
     no-block (roomy (length (a .out .now)) (a .text .now)) (a .out .now) (q .put-block .last .1 .0) (omega (arith, p .counts .read-is, e .if1 .left)) (p .output) in
-    subst (λ (out : List ℕ). PassesTo utf16 utf8 (a .text .now) out (w .write-few .last .1 .0) (w .write-few .result .read) (w .write-few .result .places)) same (w .write-few .ensures)
+    subst (λ (out : List ℕ). PassesTo utf16 utf8 (a .text .now) out (w .write-sixteen .last .1 .0) (w .write-sixteen .result .read) (w .write-sixteen .result .places)) same (w .write-sixteen .ensures)
 
 pub write-part-spec : {M : Type 1} → statement M
 write-part-spec =
@@ -55,6 +54,6 @@ write-part-spec =
     put-block-requires
     same-length
     returns
-    write-few-requires
+    write-sixteen-requires
     same-length-2
     returns-2)

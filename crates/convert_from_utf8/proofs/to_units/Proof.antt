@@ -1,12 +1,11 @@
 -- The check's refusal, or what the text spells, as there is no damage.
--- Assumes nothing.
 use mathlib.Core.Path.{sym, ap, _∙_}
 use Rattle.terms.specs.Strict.{damaged}
-use Rattle.terms.specs.Told.{checked}
+use Rattle.terms.specs.Told.{toldChecked}
 use Rattle.terms.proofs.AnswersWritten.{strict-refused}
 use Rattle.utf8.specs.Scalar.{utf8}
 use Rattle.utf16.specs.Scalar.{utf16}
-use Rattle.convert_from_utf8.proofs.AnswersOfRoom.{strict-spelled}
+use Rattle.convert_from_utf8.proofs.StrictIsSpelled.{strict-spelled}
 use borrow.Author.Needs.{needs}
 use Rattle.convert_from_utf8.proofs.to_units.Statement.{statement}
 use Rattle.convert_from_utf8.proofs.to_units.Tie as tie
@@ -32,14 +31,14 @@ returns c =
     let t = r .before .before in
     let k = t .before .before in
     let a = k .before .before .before .args in
-    strict-spelled (a .text .now) (a .out .now) (r .write .last .1 .0) (r .write .result) (ap checked (sym (t .enum-told .given .1)) ∙ k .check .ensures) (r .write .ensures)
+    strict-spelled (a .text .now) (a .out .now) (r .write .last .1 .0) (r .write .result) (ap toldChecked (sym (t .enum-told .given .1)) ∙ k .check .ensures) (r .write .ensures)
 
 returns-2 : tie.Need-returns-2
 returns-2 c =
     let k = c .before .before .before in
     let a = k .before .before .before .args in
     strict-refused damaged utf8 utf16 (a .text .now) (a .out .now) (c .before .r .given .0 .0)
-    (ap checked (sym (c .before .r .given .1)) ∙ k .check .ensures)
+    (ap toldChecked (sym (c .before .r .given .1)) ∙ k .check .ensures)
 
 pub to-units-spec : {M : Type 1} → statement M
 to-units-spec =

@@ -1,88 +1,93 @@
 -- What is written, and what the rest of the text writes, is the form.
--- Assumes nothing.
-use Prim.Native.Nat.{_+_, _-_}
+use Prim.Native.Nat.{_+_, _-_, _≤_}
 use lib.ListN.{length}
 use native.Mathlib.Omega.{arith}
 use Rattle.terms.proofs.WalkWrites.{Met, met, back, Wrote, wrote-start, wrote-end}
 use Rattle.utf8.specs.Scalar.{utf8}
 use Rattle.utf16.specs.Scalar.{utf16}
 use Rattle.utf8.proofs.FaithfulForm.{utf8-faithful}
-use Rattle.convert_from_utf8.proofs.RunsSpelled.{run-in-part, units-room, wrote-units}
+use Rattle.utf8_check.proofs.RunsPassed.{run-inside}
+use Rattle.convert_from_utf8.proofs.RunsSpelled.{units-room, wrote-units}
 use Rattle.convert_point.proofs.PointWritten.{wrote-put}
 use borrow.Author.Needs.{needs}
 use Rattle.convert_from_utf8.proofs.write_units.Statement.{statement}
 use Rattle.convert_from_utf8.proofs.write_units.Tie as tie
 
 abbrev Inv-loop : tie.InvT-loop
-Inv-loop text out₀ at₀ done₀ calm₀ out at done calm = Wrote utf8 utf16 text out₀ out at done
+Inv-loop text out₀ at₀ done₀ pace₀ out at done pace = Wrote utf8 utf16 text out₀ out at done
 
 abbrev μ-loop : tie.MeasureT-loop
-μ-loop text out₀ at₀ done₀ calm₀ out at done calm = length text - at
+μ-loop text out₀ at₀ done₀ pace₀ out at done pace = length text - at
 
 loop-holds : tie.Need-loop-holds Inv-loop μ-loop
 loop-holds c = let a = c .before .before .args in wrote-start utf8 utf16 (a .text .now) (a .out .now)
 
-sub-calm-run : tie.Need-sub-calm-run Inv-loop μ-loop
-sub-calm-run c = let i = c .loop .inv .inside in search needs
+sub-paced-run : tie.Need-sub-paced-run Inv-loop μ-loop
+sub-paced-run c = let i = c .loop .inv .inside in search needs
 
-part-calm-run-start : tie.Need-part-calm-run-start Inv-loop μ-loop
-part-calm-run-start c = let i = c .loop .inv .inside in search needs
+part-paced-run-start : tie.Need-part-paced-run-start Inv-loop μ-loop
+part-paced-run-start c = let i = c .loop .inv .inside in search needs
 
-part-calm-run-end : tie.Need-part-calm-run-end Inv-loop μ-loop
-part-calm-run-end c = search needs
+part-paced-run-end : tie.Need-part-paced-run-end Inv-loop μ-loop
+part-paced-run-end c = search needs
 
-calm-run-requires : tie.Need-calm-run-requires Inv-loop μ-loop
-calm-run-requires c κs = search needs
+paced-run-requires : tie.Need-paced-run-requires Inv-loop μ-loop
+paced-run-requires c κs = search needs
 
-sub-spell : tie.Need-sub-spell Inv-loop μ-loop
-sub-spell c = let i = c .before .before .loop .inv .inside in search needs
+-- the run ends within the text
+ends : (c : tie.After-paced-run Inv-loop μ-loop)
+    → let l = c .before .before in
+    l .loop .at + c .paced-run .result ≤ length (l .before .before .before .args .text .now)
+ends c =
+    let l = c .before .before in
+    run-inside (l .before .before .before .args .text .now) (l .loop .at) (l .loop .pace) (c .paced-run .result) (l .loop .inv .inside) (c .paced-run .ensures)
 
-part-spell-start : tie.Need-part-spell-start Inv-loop μ-loop
-part-spell-start c = let i = c .before .before .loop .inv .inside in search needs
+add-end : tie.Need-add-end Inv-loop μ-loop
+add-end c = omega (arith, ends c, c .before .before .before .before .before .good)
 
-part-spell-end : tie.Need-part-spell-end Inv-loop μ-loop
-part-spell-end c = search needs
+sub-put : tie.Need-sub-put Inv-loop μ-loop
+sub-put c = search needs
 
-mul-spell : tie.Need-mul-spell Inv-loop μ-loop
-mul-spell c = search needs
+part-put-start : tie.Need-part-put-start Inv-loop μ-loop
+part-put-start c = search needs
 
-sub-spell-2 : tie.Need-sub-spell-2 Inv-loop μ-loop
-sub-spell-2 c = search needs
+part-put-end : tie.Need-part-put-end Inv-loop μ-loop
+part-put-end c = let i = ends c in search needs
 
-part-spell-start-2 : tie.Need-part-spell-start-2 Inv-loop μ-loop
-part-spell-start-2 c = search needs
+mul-put : tie.Need-mul-put Inv-loop μ-loop
+mul-put c = search needs
 
-part-spell-end-2 : tie.Need-part-spell-end-2 Inv-loop μ-loop
-part-spell-end-2 c = search needs
+sub-put-2 : tie.Need-sub-put-2 Inv-loop μ-loop
+sub-put-2 c = search needs
 
-spell-requires : tie.Need-spell-requires Inv-loop μ-loop
-spell-requires c κs =
+part-put-start-2 : tie.Need-part-put-start-2 Inv-loop μ-loop
+part-put-start-2 c = search needs
+
+part-put-end-2 : tie.Need-part-put-end-2 Inv-loop μ-loop
+part-put-end-2 c = search needs
+
+put-requires : tie.Need-put-requires Inv-loop μ-loop
+put-requires c κs =
     let r = c .before .before in
     let l = r .before .before in
     let z = l .before .before .before in
-    let text = z .args .text .now in (
-      run-in-part text (l .loop .at) (l .loop .calm) (r .calm-run .result) (l .loop .inv .inside) (r .calm-run .ensures),
-      units-room text (l .loop .at) (l .loop .calm) (r .calm-run .result) (l .loop .inv .inside) (r .calm-run .ensures) (z .args .out .now) (l .loop .out) (l .loop .done) (l .loop .inv) (z .pre),
-    )
+    units-room (z .args .text .now) (l .loop .at) (l .loop .pace) (r .paced-run .result) (l .loop .inv .inside) (r .paced-run .ensures) (z .args .out .now) (l .loop .out) (l .loop .done) (l .loop .inv) (z .pre)
 
 -- what is written behind the run
-ran : (s : tie.After-spell Inv-loop μ-loop)
+ran : (s : tie.After-put Inv-loop μ-loop)
     → let r = s .before .before .before in
     let l = r .before .before in
     let a = l .before .before .before .args in
-    Wrote utf8 utf16 (a .text .now) (a .out .now) (back (l .loop .out) (l .loop .done) (s .spell .last .1 .1 .0)) (l .loop .at + r .calm-run .result) (l .loop .done + s .spell .result)
+    Wrote utf8 utf16 (a .text .now) (a .out .now) (back (l .loop .out) (l .loop .done) (s .put .last .1 .0)) (l .loop .at + r .paced-run .result) (l .loop .done + s .put .result)
 ran s =
     let r = s .before .before .before in
     let l = r .before .before in
     let z = l .before .before .before in
-    wrote-units (z .args .text .now) (l .loop .at) (l .loop .calm) (r .calm-run .result) (l .loop .inv .inside) (r .calm-run .ensures) (z .args .out .now) (l .loop .out) (l .loop .done)
-    (l .loop .inv) (z .pre) (s .spell .last .1 .1 .0) (s .spell .result) (s .spell .ensures)
+    wrote-units (z .args .text .now) (l .loop .at) (l .loop .pace) (r .paced-run .result) (l .loop .inv .inside) (r .paced-run .ensures) (z .args .out .now) (l .loop .out) (l .loop .done)
+    (l .loop .inv) (z .pre) (s .put .last .1 .0) (s .put .result) (s .put .ensures)
 
 add-done : tie.Need-add-done Inv-loop μ-loop
 add-done c = let w = ran (c .before .before) in omega (arith, w .within, c .before .before .before .before .before .before .before .before .before .before .good)
-
-add-at : tie.Need-add-at Inv-loop μ-loop
-add-at c = let w = ran (c .before .before) in omega (arith, w .inside, c .before .before .before .before .before .before .before .before .before .before .good)
 
 same-length : tie.Need-same-length Inv-loop μ-loop
 same-length c = ran (c .before .before .before) .long
@@ -93,7 +98,7 @@ returns c =
     let r = s .before .before .before in
     let l = r .before .before in
     let a = l .before .before .before .args in
-    let e = wrote-end utf8 utf16 (a .text .now) (a .out .now) (back (l .loop .out) (l .loop .done) (s .spell .last .1 .1 .0)) (l .loop .at + r .calm-run .result) (l .loop .done + s .spell .result)
+    let e = wrote-end utf8 utf16 (a .text .now) (a .out .now) (back (l .loop .out) (l .loop .done) (s .put .last .1 .0)) (l .loop .at + r .paced-run .result) (l .loop .done + s .put .result)
     (ran s) (c .if1 .taken) in
     record { count = e .0; output = e .1 }
 
@@ -125,12 +130,12 @@ part-put-units-end c = let w = ran (c .before .before .before .before .before) i
 here : (p : tie.After-point Inv-loop μ-loop)
     → let r = p .before .before .before .before .before .before .before .before in
     let l = r .before .before in
-    Met utf8 (l .before .before .before .args .text .now) (l .loop .at + r .calm-run .result) (p .point .result .size) (p .point .result .number)
+    Met utf8 (l .before .before .before .args .text .now) (l .loop .at + r .paced-run .result) (p .point .result .size) (p .point .result .number)
 here p =
     let e = p .before .before in
     let r = e .before .before .before .before .before .before in
     let l = r .before .before in
-    met utf8-faithful (l .before .before .before .args .text .now) (l .loop .at + r .calm-run .result) (e .if1 .left) _ _ (p .point .ensures)
+    met utf8-faithful (l .before .before .before .args .text .now) (l .loop .at + r .paced-run .result) (e .if1 .left) _ _ (p .point .ensures)
 
 put-units-requires : tie.Need-put-units-requires Inv-loop μ-loop
 put-units-requires c κs = search needs
@@ -143,31 +148,31 @@ after : (u : tie.After-put-units Inv-loop μ-loop)
     let l = r .before .before in
     let a = l .before .before .before .args in
     Wrote utf8 utf16 (a .text .now) (a .out .now)
-    (back (back (l .loop .out) (l .loop .done) (s .spell .last .1 .1 .0)) (l .loop .done + s .spell .result) (u .put-units .last .0))
-    (l .loop .at + r .calm-run .result + p .point .result .size) (l .loop .done + s .spell .result + u .put-units .result)
+    (back (back (l .loop .out) (l .loop .done) (s .put .last .1 .0)) (l .loop .done + s .put .result) (u .put-units .last .0))
+    (l .loop .at + r .paced-run .result + p .point .result .size) (l .loop .done + s .put .result + u .put-units .result)
 after u =
     let p = u .before .before in
     let s = p .before .before .before .before .before in
     let r = s .before .before .before in
     let l = r .before .before in
     let z = l .before .before .before in
-    wrote-put utf8 utf16 (z .args .text .now) (z .args .out .now) (back (l .loop .out) (l .loop .done) (s .spell .last .1 .1 .0)) (l .loop .at + r .calm-run .result) (l .loop .done + s .spell .result)
+    wrote-put utf8 utf16 (z .args .text .now) (z .args .out .now) (back (l .loop .out) (l .loop .done) (s .put .last .1 .0)) (l .loop .at + r .paced-run .result) (l .loop .done + s .put .result)
     (ran s) (z .pre) _ _ (here p) (u .put-units .last .0) (u .put-units .result) (u .put-units .ensures)
 
 add-done-2 : tie.Need-add-done-2 Inv-loop μ-loop
 add-done-2 c = let w = after (c .before .before) in omega (arith, w .within, c .before .before .before .before .before .before .before .before .before .before .before .before .before .before .before .before .before .good)
 
-add-at-2 : tie.Need-add-at-2 Inv-loop μ-loop
-add-at-2 c = let m = here (c .before .before .before .before .before) in omega (arith, m .inside, c .before .before .before .before .before .before .before .before .before .before .before .before .before .before .before .before .before .before .good)
+add-at : tie.Need-add-at Inv-loop μ-loop
+add-at c = let m = here (c .before .before .before .before .before) in omega (arith, m .inside, c .before .before .before .before .before .before .before .before .before .before .before .before .before .before .before .before .before .before .good)
 
-calm-behind-requires : tie.Need-calm-behind-requires Inv-loop μ-loop
-calm-behind-requires c κs = search needs
+pace-behind-requires : tie.Need-pace-behind-requires Inv-loop μ-loop
+pace-behind-requires c κs = search needs
 
 loop-less : tie.Need-loop-less Inv-loop μ-loop
-loop-less c = let m = here (c .before .before .before .before .before .before .before) in omega (arith, m .some, m .inside)
+loop-less c = let m = here (c .before .before .before .before .before .before) in omega (arith, m .some, m .inside)
 
 loop-again : tie.Need-loop-again Inv-loop μ-loop
-loop-again c = after (c .before .before .before .before .before)
+loop-again c = after (c .before .before .before .before)
 
 pub write-units-spec : {M : Type 1} → statement M
 write-units-spec =
@@ -176,20 +181,20 @@ write-units-spec =
     Inv-loop
     μ-loop
     loop-holds
-    sub-calm-run
-    part-calm-run-start
-    part-calm-run-end
-    calm-run-requires
-    sub-spell
-    part-spell-start
-    part-spell-end
-    mul-spell
-    sub-spell-2
-    part-spell-start-2
-    part-spell-end-2
-    spell-requires
+    sub-paced-run
+    part-paced-run-start
+    part-paced-run-end
+    paced-run-requires
+    add-end
+    sub-put
+    part-put-start
+    part-put-end
+    mul-put
+    sub-put-2
+    part-put-start-2
+    part-put-end-2
+    put-requires
     add-done
-    add-at
     same-length
     returns
     sub-point
@@ -202,7 +207,7 @@ write-units-spec =
     part-put-units-end
     put-units-requires
     add-done-2
-    add-at-2
-    calm-behind-requires
+    add-at
+    pace-behind-requires
     loop-less
     loop-again)

@@ -1,5 +1,4 @@
 -- Each return is the length of the sequence that its tests lead to.
--- Assumes nothing.
 use mathlib.Core.Path.{sym, ap}
 use lib.ListN.{length}
 use native.Mathlib.Omega.{arith}

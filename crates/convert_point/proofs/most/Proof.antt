@@ -1,5 +1,4 @@
 -- So much for each element, of at most as many as the limit allows.
--- Assumes nothing.
 use borrow.Author.Tests.{lt-ltb, le-ltb}
 use native.Mathlib.Omega.{arith}
 use Rattle.terms.specs.Limits.{limit}

@@ -1,5 +1,4 @@
 -- Each arm is its form's count.
--- Assumes nothing.
 use mathlib.Core.Path.{_∙_}
 use borrow.Author.Needs.{needs}
 use Rattle.convert_point.proofs.places.Statement.{statement}

@@ -1,7 +1,6 @@
 -- Each arm is its pair's count.
--- Assumes nothing.
 use mathlib.Core.Path.{sym}
-use Rattle.convert_point.proofs.Enough.{codes-one}
+use Rattle.convert_point.proofs.Enough.{points-one}
 use borrow.Author.Needs.{needs}
 use Rattle.convert_point.proofs.places_each.Statement.{statement}
 use Rattle.convert_point.proofs.places_each.Tie as tie
@@ -52,7 +51,7 @@ returns-6 : tie.Need-returns-6
 returns-6 c = search needs
 
 returns-7 : tie.Need-returns-7
-returns-7 c = sym (rw (c .enum-told9 .given .1) (codes-one (c .before .before .args .from)))
+returns-7 c = sym (rw (c .enum-told9 .given .1) (points-one (c .before .before .args .from)))
 
 pub places-each-spec : {M : Type 1} → statement M
 places-each-spec =

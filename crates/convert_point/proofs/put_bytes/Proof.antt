@@ -1,5 +1,4 @@
 -- Each arm stores the sequence that its tests lead to, or finds no room for it.
--- Assumes nothing.
 use mathlib.Core.List.{[], _∷_}
 use lib.ListN.{length-set}
 use native.Mathlib.Omega.{arith}

@@ -1,5 +1,4 @@
 -- Each arm stores the unit or the pair that its test leads to, or finds no room for it.
--- Assumes nothing.
 use mathlib.Core.List.{[], _∷_}
 use lib.ListN.{length-set}
 use native.Mathlib.Omega.{arith}

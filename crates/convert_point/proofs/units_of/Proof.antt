@@ -1,5 +1,4 @@
 -- Each return is the length of the unit or the pair that its test leads to.
--- Assumes nothing.
 use mathlib.Core.Path.{sym, ap}
 use lib.ListN.{length}
 use Rattle.utf16.proofs.FaithfulForm.{is-one, is-two}

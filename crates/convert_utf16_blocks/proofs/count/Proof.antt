@@ -1,5 +1,4 @@
 -- The places of the units passed.
--- Assumes nothing.
 use mathlib.Core.Path.{_≡_, refl, _∙_}
 use Prim.Native.Nat.{ℕ, _-_, _*_, _≤_}
 use lib.ListN.{length, getD, take, length-append}
@@ -7,7 +6,7 @@ use lib.Seq.{take-all}
 use native.Mathlib.Omega.{arith}
 use borrow.Author.Needs.{needs}
 use Rattle.convert_utf16_blocks.specs.Block.{bytesOf}
-use Rattle.convert_utf16_blocks.specs.Places.{sizeOf}
+use Rattle.convert_utf16_blocks.specs.Inside.Places.{sizeOf}
 use Rattle.convert_utf16_blocks.proofs.BytesSqueezed.{size-is, size-some, bytes-next}
 use Rattle.convert_utf16_blocks.proofs.count.Statement.{statement}
 use Rattle.convert_utf16_blocks.proofs.count.Tie as tie

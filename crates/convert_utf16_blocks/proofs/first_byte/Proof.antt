@@ -1,5 +1,4 @@
 -- Each arm is what its tests lead to.
--- Assumes nothing.
 use borrow.Author.Tests.{lt-ltb, le-ltb}
 use borrow.Author.Needs.{needs}
 use Rattle.convert_utf16_blocks.proofs.first_byte.Statement.{statement}

@@ -1,5 +1,4 @@
 -- The units passed stand in the output.
--- Assumes nothing.
 use mathlib.Core.Path.{_≡_, refl, _∙_}
 use Prim.Native.Nat.{ℕ, _-_, _%_, _≤_}
 use mathlib.Core.List.{_++_}

@@ -1,12 +1,11 @@
 -- One unit more each time, and one place fewer that is written over.
--- Assumes nothing.
 use mathlib.Core.Path.{refl, ap, _∙_}
 use Prim.Native.Nat.{_+_}
 use lib.ListN.{length, getD, length-drop}
 use native.Mathlib.Omega.{arith}
 use Rattle.terms.proofs.WalkBySegments.{part-is}
 use Rattle.terms.proofs.WalkWrites.{back}
-use Rattle.convert_utf16_blocks.specs.Places.{Squeezed}
+use Rattle.convert_utf16_blocks.specs.Inside.Places.{Squeezed}
 use Rattle.convert_utf16_blocks.proofs.BytesSqueezed.{put-next}
 use borrow.Author.Needs.{needs}
 use Rattle.convert_utf16_blocks.proofs.put_mixed.Statement.{statement}

@@ -1,5 +1,4 @@
 -- Each arm stores the sequence that its tests lead to.
--- Assumes nothing.
 use lib.ListN.{length-set}
 use mathlib.Core.List.{[], _∷_}
 use native.Mathlib.Omega.{arith}

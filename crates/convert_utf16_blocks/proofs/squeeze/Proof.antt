@@ -1,11 +1,10 @@
 -- The units passed are squeezed into the output.
--- Assumes nothing.
 use mathlib.Core.Path.{_≡_, refl, subst, _∙_}
 use Prim.Native.Nat.{ℕ, _-_, _≤_}
 use lib.ListN.{getD, length-set}
 use native.Mathlib.Omega.{arith}
 use borrow.Author.Needs.{needs}
-use Rattle.convert_utf16_blocks.specs.Places.{sizeOf, Squeezed}
+use Rattle.convert_utf16_blocks.specs.Inside.Places.{sizeOf, Squeezed}
 use Rattle.convert_utf16_blocks.proofs.BytesSqueezed.{size-some, squeezed-start, squeezed-next}
 use Rattle.convert_utf16_blocks.proofs.squeeze.Statement.{statement}
 use Rattle.convert_utf16_blocks.proofs.squeeze.Tie as tie

@@ -1,5 +1,4 @@
 -- No unit passed is above the bits of them all.
--- Assumes nothing.
 use Prim.Native.Nat.{_-_, _≤_}
 use native.Mathlib.Omega.{arith}
 use borrow.Author.Needs.{needs}

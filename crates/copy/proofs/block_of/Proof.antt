@@ -1,5 +1,4 @@
 -- The block is filled as far as the loop has come.
--- Assumes nothing.
 use mathlib.Core.Path.{_≡_, _∙_}
 use Prim.Native.Nat.{_-_, _≤_}
 use mathlib.Core.List.{append-nil}

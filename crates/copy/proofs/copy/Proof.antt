@@ -1,5 +1,4 @@
 -- As many bytes as both have.
--- Assumes nothing.
 use borrow.Author.Needs.{needs}
 use Rattle.copy.proofs.Copied.{copied-all}
 use Rattle.copy.proofs.copy.Statement.{statement}

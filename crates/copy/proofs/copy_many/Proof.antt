@@ -1,5 +1,4 @@
 -- Block by block, and the last block over what stands there already.
--- Assumes nothing.
 use mathlib.Core.Path.{_≡_}
 use Prim.Native.Nat.{_+_, _-_, _≤_}
 use native.Mathlib.Omega.{arith}

@@ -1,11 +1,10 @@
 -- `end` meets its contract: the room first, then the pending bytes act as one damage.
--- Assumes nothing.
 use mathlib.Core.Path.{_≡_, sym, _∙_}
 use lib.ListN.{length, length-map}
 use Rattle.terms.specs.Limits.{mostPending}
-use Rattle.decoder.specs.Acting.{places, work}
-use Rattle.decoder.specs.Steps.{lastOf}
-use Rattle.decoder.proofs.FinishAnswers.{finish-short, finish-done}
+use Rattle.decoder.specs.Inside.Acting.{places, work}
+use Rattle.decoder.specs.Inside.Steps.{lastOf}
+use Rattle.decoder.proofs.FinishAnswers.{finish-short, last-ready, finish-done}
 use borrow.Author.Needs.{needs}
 use Rattle.decoder.proofs.end.Statement.{statement}
 use Rattle.decoder.proofs.end.Tie as tie
@@ -39,7 +38,14 @@ open-tally-requires : tie.Need-open-tally-requires
 open-tally-requires c κs = search needs
 
 act-requires : tie.Need-act-requires
-act-requires c κs = search needs
+act-requires c κs =
+    let o = c .before .before in
+    let e = o .before .before .before in
+    let p = e .before in
+    let z = p .before .before .before .before in
+    let a = z .args in
+    rw (o .open-tally .ensures, p .before .last .ensures)
+    (last-ready (a .state) (a .out .now) (a .list .now) (three z) (z .pre) (rw (need-is p) at (e .if1 .left)))
 
 fresh-requires : tie.Need-fresh-requires
 fresh-requires c κs = search needs

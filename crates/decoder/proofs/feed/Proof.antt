@@ -1,9 +1,9 @@
 -- `feed` meets its contract: the checks, and then the piece is taken.
--- Assumes nothing.
 use mathlib.Core.Path.{_≡_, sym, ap, _∙_}
 use mathlib.Core.List.{[], _∷_}
 use lib.ListN.{length}
-use Rattle.decoder.specs.Checks.{admission, admitSays}
+use Rattle.decoder.specs.Checks.{admitSays}
+use Rattle.decoder.specs.Inside.Steps.{admission}
 use Rattle.decoder.proofs.FeedAnswers.{feed-refused, feed-granted}
 use borrow.Author.Needs.{needs}
 use Rattle.decoder.proofs.feed.Statement.{statement}

@@ -1,56 +1,105 @@
--- `feed_rest` meets its contract: the segment at the seam and the text act, or the output is too short.
--- Assumes nothing.
-use Prim.Native.Nat.{_≤_}
-use mathlib.Core.Path.{_∙_}
-use lib.ListN.{length}
+-- `feed_rest` meets its contract: the need first, then the segment at the seam, then those of the text.
+use Prim.Native.Nat.{ℕ, _+_, _-_, _≤_}
+use mathlib.Core.Path.{_≡_, ap, _∙_}
+use mathlib.Core.List.{List}
+use lib.ListN.{length, take, drop}
 use native.Mathlib.Omega.{arith}
+use Rattle.theory.specs.Reader.{parts}
 use Rattle.terms.proofs.WalkBySegments.{part-is}
-use Rattle.decoder.specs.Acting.{work}
-use Rattle.decoder.specs.Settling.{Settles}
+use Rattle.utf8.specs.Bytes.{bytes}
+use Rattle.decoder.specs.Inside.Acting.{need, places, toldOf, work, acted}
+use Rattle.decoder.specs.Inside.Steps.{tallyOf, keeping}
+use Rattle.decoder.specs.declared.walk.Span.{Span}
 use Rattle.decoder.proofs.SpanOfSettled.{span-inside, span-left}
-use Rattle.decoder.specs.Steps.{tallyOf}
-use Rattle.decoder.proofs.FeedAnswers.{behind-short, behind-done}
+use Rattle.decoder.proofs.FeedAnswers.{rests-small, needs-few, seam-ready, rest-ready, behind-short, behind-done}
 use borrow.Author.Needs.{needs}
 use Rattle.decoder.proofs.feed_rest.Statement.{statement}
 use Rattle.decoder.proofs.feed_rest.Tie as tie
 
-open-tally-requires : tie.Need-open-tally-requires
-open-tally-requires c κs = search needs
+span-of-requires : tie.Need-span-of-requires
+span-of-requires c κs =
+    let z = c .before .before .before .before in
+    let a = z .args in
+    rests-small (a .state) (a .seg) (a .seam .now) (a .rest .now) (a .list .now) (z .pre)
 
-settle-requires : tie.Need-settle-requires
-settle-requires c κs = search needs
+places-requires : tie.Need-places-requires
+places-requires c κs = search needs
 
--- what they have done
-settled : (c : tie.After-settle)
-    → let a = c .before .before .before .before .before .before .before .before .args in
-    Settles (a .state .room) (a .seg) (a .seam .now) (a .rest .now) (work (tallyOf (a .state)) (a .out .now) (a .list .now))
-    (c .settle .last .1 .1 .1 .1 .1 .0) (c .settle .last .1 .1 .1 .1 .1 .1 .0) (c .settle .result)
-settled c = rw (c .before .before .before .open-tally .ensures) at (c .settle .ensures)
+abbrev start : tie.After-struct-known → tie.Start
+start c = c .before .before .before .before .before .before .before
 
-same-length : tie.Need-same-length
-same-length c = search needs
+-- how many places they need
+needed-is : (c : tie.After-struct-known)
+    → let a = start c .args in
+    c .before .places .result + c .before .before .span-of .result .places ≡ places (a .seg) + need (parts bytes (a .rest .now) .done)
+needed-is c = λ i. c .before .places .ensures i + c .before .before .span-of .ensures i .places
 
-same-length-2 : tie.Need-same-length-2
-same-length-2 c = search needs
+add-needed : tie.Need-add-needed
+add-needed c =
+    let z = start c in
+    let a = z .args in
+    omega (arith, needed-is c, needs-few (a .state) (a .seg) (a .seam .now) (a .rest .now) (a .list .now) (z .pre))
 
 returns : tie.Need-returns
 returns c =
-    let s = c .before .before .before .before .before in
-    let z = s .before .before .before .before .before .before .before .before in
+    let z = start (c .before) in
     let a = z .args in
-    behind-short (a .state) (a .seg) (a .seam .now) (a .rest .now) (a .list .now) (z .pre) (a .taken) (a .out .now)
-    (s .settle .last .1 .1 .1 .1 .1 .0) (s .settle .last .1 .1 .1 .1 .1 .1 .0) (s .settle .result) (settled s)
-    (omega (arith, c .if1 .taken, s .settle .kept .1 .1 .1 .1 .1 .0))
+    behind-short (a .state) (a .seg) (a .seam .now) (a .rest .now) (a .list .now) (z .pre) (a .taken) (a .out .now) _ (needed-is (c .before)) (c .if1 .taken)
 
--- how far the text is settled
-inside : (c : tie.After-settle) → c .settle .result .size ≤ length (c .before .before .before .before .before .before .before .before .args .rest .now)
-inside c = rw (settled c .size-is) (span-inside (c .before .before .before .before .before .before .before .before .args .rest .now))
+open-tally-requires : tie.Need-open-tally-requires
+open-tally-requires c κs = search needs
+
+-- the output has so many
+enough : (c : tie.Else1) → let a = start (c .before) .args in places (a .seg) + need (parts bytes (a .rest .now) .done) ≤ length (a .out .now)
+enough c = omega (arith, needed-is (c .before), c .if1 .left)
+
+act-requires : tie.Need-act-requires
+act-requires c κs =
+    let o = c .before .before in
+    let z = start (o .before .before) in
+    let a = z .args in
+    rw (o .open-tally .ensures)
+    (seam-ready (a .state) (a .seg) (a .seam .now) (a .rest .now) (a .list .now) (z .pre) (a .taken) (a .out .now) (enough (o .before)))
+
+-- the segment at the seam has acted
+seam-acts : (c : tie.After-act)
+    → let a = start (c .before .before .before .before .before) .args in
+    work (c .act .result) (c .act .last .1 .1 .1 .1 .0) (c .act .last .1 .1 .1 .1 .1 .0)
+    ≡ acted (a .state .room) (toldOf (a .seg) (a .seam .now)) (work (tallyOf (a .state)) (a .out .now) (a .list .now))
+seam-acts c = rw (c .before .before .before .open-tally .ensures) at (c .act .ensures)
+
+walk-requires : tie.Need-walk-requires
+walk-requires c κs =
+    let t = c .before .before .before .before .before .before in
+    let e = t .before .before .before .before in
+    let z = start (e .before) in
+    let a = z .args in
+    rest-ready (a .state) (a .seg) (a .seam .now) (a .rest .now) (a .list .now) (z .pre) (a .taken) (a .out .now) (enough e)
+    (work (t .act .result) (t .act .last .1 .1 .1 .1 .0) (t .act .last .1 .1 .1 .1 .1 .0)) (seam-acts t)
+
+-- how far the text is settled, and what is left behind that
+abbrev asked : tie.After-walk → tie.After-struct-known
+asked c = c .before .before .before .before .before .before .before .before .before .before .before .before
+
+inside : (c : tie.After-walk) → asked c .before .before .span-of .result .size ≤ length (start (asked c) .args .rest .now)
+inside c =
+    omega (arith, ap (λ (x : Span). x .size) (asked c .before .before .span-of .ensures), span-inside (start (asked c) .args .rest .now))
+
+left-is : (c : tie.After-walk)
+    → let rest = start (asked c) .args .rest .now in
+    let n = asked c .before .before .span-of .result .size in
+    take (length rest - n) (drop n rest) ≡ parts bytes rest .left
+left-is c =
+    let rest = start (asked c) .args .rest .now in
+    part-is rest (asked c .before .before .span-of .result .size)
+    ∙ ap (λ (x : Span). drop (x .size) rest) (asked c .before .before .span-of .ensures)
+    ∙ span-left rest
 
 sub-keep : tie.Need-sub-keep
-sub-keep c = inside (c .before .before .before .before .before)
+sub-keep c = inside (c .before .before .before .before)
 
 part-keep-start : tie.Need-part-keep-start
-part-keep-start c = inside (c .before .before .before .before .before)
+part-keep-start c = inside (c .before .before .before .before)
 
 part-keep-end : tie.Need-part-keep-end
 part-keep-end c = search needs
@@ -58,36 +107,39 @@ part-keep-end c = search needs
 keep-requires : tie.Need-keep-requires
 keep-requires c κs = search needs
 
-same-length-3 : tie.Need-same-length-3
-same-length-3 c = search needs
+same-length : tie.Need-same-length
+same-length c = search needs
 
-same-length-4 : tie.Need-same-length-4
-same-length-4 c = search needs
+same-length-2 : tie.Need-same-length-2
+same-length-2 c = search needs
 
 returns-2 : tie.Need-returns-2
 returns-2 c =
-    let e = c .before .before in
-    let s = e .before .before .before .before .before in
-    let z = s .before .before .before .before .before .before .before .before in
+    let k = c .before .before .before .before .before .before in
+    let t = k .before .before .before .before .before .before .before in
+    let e = t .before .before .before .before in
+    let z = start (e .before) in
     let a = z .args in
-    behind-done (a .state) (a .seg) (a .seam .now) (a .rest .now) (a .list .now) (z .pre) (a .taken) (a .out .now)
-    (s .settle .last .1 .1 .1 .1 .1 .0) (s .settle .last .1 .1 .1 .1 .1 .1 .0) (s .settle .result) (settled s)
-    (omega (arith, e .if1 .left, s .settle .kept .1 .1 .1 .1 .1 .0)) (c .keep .result)
-    (c .keep .ensures ∙ rw (part-is, settled s .size-is, span-left))
+    behind-done (a .state) (a .seg) (a .seam .now) (a .rest .now) (a .list .now) (z .pre) (a .taken) (a .out .now) (enough e)
+    (work (t .act .result) (t .act .last .1 .1 .1 .1 .0) (t .act .last .1 .1 .1 .1 .1 .0)) (seam-acts t)
+    (work (k .walk .result) (k .walk .last .1 .1 .1 .0) (k .walk .last .1 .1 .1 .1 .0)) (k .walk .ensures)
+    (c .keep .result) (c .keep .ensures ∙ ap (λ (xs : List ℕ). keeping xs (k .walk .result) (a .taken) (a .state .room)) (left-is k))
 
 pub feed-rest-spec : {M : Type 1} → statement M
 feed-rest-spec =
     tie.close
     (tie.spec
-    open-tally-requires
-    settle-requires
-    same-length
-    same-length-2
+    span-of-requires
+    places-requires
+    add-needed
     returns
+    open-tally-requires
+    act-requires
+    walk-requires
     sub-keep
     part-keep-start
     part-keep-end
     keep-requires
-    same-length-3
-    same-length-4
+    same-length
+    same-length-2
     returns-2)

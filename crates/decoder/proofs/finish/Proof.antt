@@ -1,7 +1,6 @@
 -- `finish` meets its contract: the checks, and then the text ends.
--- Assumes nothing.
 use mathlib.Core.Path.{sym, ap, _∙_}
-use Rattle.decoder.specs.Checks.{admission}
+use Rattle.decoder.specs.Inside.Steps.{admission}
 use Rattle.decoder.proofs.FinishAnswers.{finish-refused}
 use borrow.Author.Needs.{needs}
 use Rattle.decoder.proofs.finish.Statement.{statement}

@@ -1,5 +1,4 @@
 -- `join` meets its contract: all of the seam is pending still, or its segment is settled and the piece goes on.
--- Assumes nothing.
 use Prim.Native.Nat.{ℕ, _+_, _-_, _≤_}
 use mathlib.Core.Path.{_≡_, sym, subst, _∙_}
 use mathlib.Core.List.{List}
@@ -9,9 +8,9 @@ use Rattle.theory.specs.Stream.{State}
 use Rattle.theory.specs.Tally.{total, size, Log}
 use Rattle.terms.specs.Limits.{mostPending}
 use Rattle.terms.proofs.WalkBySegments.{part-is}
-use Rattle.utf8_pending.specs.Tail.{settled}
+use Rattle.utf8_pending.specs.Tail.{firstSettled}
 use Rattle.utf8_pending.proofs.SettledFirst.{told-size}
-use Rattle.decoder.specs.Steps.{Rests, behind, Answers}
+use Rattle.decoder.specs.Inside.Steps.{Rests, behind, Answers}
 use Rattle.decoder.proofs.FeedAnswers.{answers-still}
 use Rattle.decoder.proofs.SeamSettled.{join-within, join-none, join-over, join-inside, join-behind, join-rests}
 use borrow.Author.Needs.{needs}
@@ -42,7 +41,7 @@ keep-requires c κs = search needs
 
 -- how many bytes are settled at the seam
 size-is : (c : tie.After-settled-size)
-    → c .settled-size .result ≡ total size (settled (c .before .before .before .before .before .before .before .args .seam .now))
+    → c .settled-size .result ≡ total size (firstSettled (c .before .before .before .before .before .before .before .args .seam .now))
 size-is c =
     let s = c .before in
     let seam = s .before .before .before .before .before .before .args .seam .now in
@@ -57,7 +56,7 @@ returns c =
     (join-none (a .state) (a .piece .now) (a .list .now) (a .seam .now) (z .pre .0) (z .pre .1) (sym (size-is (i .before)) ∙ i .if1 .taken))
     (rw (c .before .open-tally .ensures) at (c .keep .ensures))
 
-some : (c : tie.Else1) → total size (settled (c .before .before .before .before .before .before .before .before .args .seam .now)) ≡ 0 → ⊥
+some : (c : tie.Else1) → total size (firstSettled (c .before .before .before .before .before .before .before .before .args .seam .now)) ≡ 0 → ⊥
 some c n = c .if1 .left (size-is (c .before) ∙ n)
 
 -- the segment reaches over what is pending, and ends in the piece
@@ -78,7 +77,7 @@ rest-is : (c : tie.Else1)
     → let z = c .before .before .before .before .before .before .before .before in
     let from = c .before .settled-size .result - z .args .state .pending in
     let piece = z .args .piece .now in
-    take (length piece - from) (drop from piece) ≡ drop (total size (settled (z .args .seam .now)) - z .args .state .pending) piece
+    take (length piece - from) (drop from piece) ≡ drop (total size (firstSettled (z .args .seam .now)) - z .args .state .pending) piece
 rest-is c = rw (part-is, size-is (c .before))
 
 sub-from : tie.Need-sub-from

@@ -1,5 +1,4 @@
 -- The bytes that are left, and 0 behind them.
--- Assumes nothing.
 use borrow.Author.Needs.{needs}
 use Rattle.decoder.proofs.keep.Statement.{statement}
 use Rattle.decoder.proofs.keep.Tie as tie

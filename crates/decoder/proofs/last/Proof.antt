@@ -1,5 +1,4 @@
 -- The number decides.
--- Assumes nothing.
 use borrow.Author.Tests.{eq-eqb, ne-eqb}
 use Rattle.decoder.proofs.last.Statement.{statement}
 use Rattle.decoder.proofs.last.Tie as tie

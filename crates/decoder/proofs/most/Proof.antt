@@ -1,5 +1,4 @@
 -- U+FFFD for each byte, of at most as many as the limit allows, and once for what is pending.
--- Assumes nothing.
 use borrow.Author.Tests.{lt-ltb, le-ltb}
 use native.Mathlib.Omega.{arith}
 use Rattle.terms.specs.Limits.{limit}

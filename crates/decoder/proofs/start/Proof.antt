@@ -1,5 +1,4 @@
 -- The room decides.
--- Assumes nothing.
 use borrow.Author.Tests.{lt-ltb, le-ltb}
 use Rattle.terms.specs.Limits.{mostRoom}
 use borrow.Author.Needs.{needs}

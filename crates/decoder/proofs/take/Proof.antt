@@ -1,5 +1,4 @@
 -- `take` meets its contract: the seam is handed on.
--- Assumes nothing.
 use Prim.Native.Nat.{_≤_}
 use mathlib.Core.Path.{_≡_, sym}
 use lib.ListN.{length, take}

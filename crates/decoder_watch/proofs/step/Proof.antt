@@ -1,5 +1,4 @@
 -- `step` meets its contract: the room is tested, and the feed's answer says whether the watch is granted.
--- Assumes nothing.
 use mathlib.Core.Path.{_∙_}
 use native.Mathlib.Nat.{le-refl}
 use borrow.Author.Needs.{needs}

@@ -1,7 +1,6 @@
 -- `watch` meets its contract, by a walk of its code: the borrow is opened, the state is copied out of its place and passed to
 -- `step`, the state that `step` gave is stored there, and the borrow is closed at it.
 -- Of `step` the proof knows its contract alone, and it names no field of the state: what the type says of a value is had whole.
--- Assumes nothing.
 use mathlib.Core.Path.{_≡_, refl, ap}
 use Prim.Native.Nat.{ℕ, _<_, _^_}
 use mathlib.Core.List.{List, [], _∷_}

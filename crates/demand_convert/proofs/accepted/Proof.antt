@@ -1,5 +1,4 @@
 -- A well-formed text is granted, and no refusal tells what it does.
--- Assumes nothing.
 use mathlib.Core.Path.{sym}
 use Rattle.terms.proofs.ToldBack.{no-zero}
 use borrow.Author.Needs.{needs}

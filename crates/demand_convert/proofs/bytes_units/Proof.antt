@@ -1,5 +1,4 @@
 -- `bytes_units` meets its contract: both steps, or whether the refusal of the first was due.
--- Assumes nothing.
 use Prim.Native.Nat.{_≤_}
 use mathlib.Core.Path.{refl, sym}
 use lib.ListN.{length}

@@ -1,12 +1,11 @@
 -- Each arm is what the definition says of its refusal.
--- Assumes nothing.
 use mathlib.Core.Path.{_≡_, refl}
 use Prim.Native.Nat.{ℕ}
 use mathlib.Core.Bool.{false}
 use mathlib.Core.List.{List, [], _∷_}
 use denote.Enum.Declared.{tagOf}
 use types.Run.{OneOf, miss}
-use Rattle.terms.specs.Told.{refusal}
+use Rattle.terms.specs.Told.{toldRefusal}
 use Rattle.terms.specs.declared.Refusal.{Refusal}
 use Rattle.terms.specs.declared.Refusal.the-variants.{Damaged, OverLimit, NoRoom, PastEnd, Inside, Unusable, ListRoom, BadState, NoScalar}
 use Rattle.terms.proofs.Refusal as the-refusal
@@ -31,7 +30,7 @@ returns-2 c = rw (c .before .why .given .1)
 abbrev others : List ℕ
 others = 0 ∷ 3 ∷ 4 ∷ 5 ∷ 6 ∷ 7 ∷ 8 ∷ []
 
-other : (why : Refusal) (long room text : ℕ) → OneOf others (tagOf the-refusal.the-type why) → false ≡ dueBack (refusal why) long room text
+other : (why : Refusal) (long room text : ℕ) → OneOf others (tagOf the-refusal.the-type why) → false ≡ dueBack (toldRefusal why) long room text
 other (Damaged start length) long room text k = refl
 other OverLimit long room text k = absurd (miss others 1 tt k)
 other (NoRoom needed) long room text k = absurd (miss others 2 tt k)

@@ -1,12 +1,11 @@
 -- Each arm is what the definition says of its refusal.
--- Assumes nothing.
 use mathlib.Core.Path.{_≡_, refl, _∙_}
 use Prim.Native.Nat.{ℕ}
 use mathlib.Core.Bool.{false}
 use mathlib.Core.List.{List, [], _∷_}
 use denote.Enum.Declared.{tagOf}
 use types.Run.{OneOf, miss}
-use Rattle.terms.specs.Told.{refusal, checked}
+use Rattle.terms.specs.Told.{toldRefusal, toldChecked}
 use Rattle.terms.specs.declared.Refusal.{Refusal}
 use Rattle.terms.specs.declared.Refusal.the-variants.{Damaged, OverLimit, NoRoom, PastEnd, Inside, Unusable, ListRoom, BadState, NoScalar}
 use Rattle.terms.proofs.Refusal as the-refusal
@@ -53,7 +52,7 @@ abbrev others : List ℕ
 others = 3 ∷ 4 ∷ 5 ∷ 6 ∷ 7 ∷ []
 
 other : (why : Refusal) (check : List ℕ) (long room most : ℕ) → OneOf others (tagOf the-refusal.the-type why)
-    → false ≡ dueThere (refusal why) check long room most
+    → false ≡ dueThere (toldRefusal why) check long room most
 other (Damaged start length) check long room most k = absurd (miss others 0 tt k)
 other OverLimit check long room most k = absurd (miss others 1 tt k)
 other (NoRoom needed) check long room most k = absurd (miss others 2 tt k)
@@ -65,7 +64,7 @@ other BadState check long room most k = refl
 other (NoScalar position) check long room most k = absurd (miss others 8 tt k)
 
 returns-5 : tie.Need-returns-5
-returns-5 c = let a = c .before .args in other (a .why) (checked (a .check)) (a .long) (a .room) (a .most) (c .match .keys5)
+returns-5 c = let a = c .before .args in other (a .why) (toldChecked (a .check)) (a .long) (a .room) (a .most) (c .match .keys5)
 
 pub due-there-spec : {M : Type 1} → statement M
 due-there-spec =

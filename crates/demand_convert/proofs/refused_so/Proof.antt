@@ -1,5 +1,4 @@
 -- The number and the values are compared; no refusal tells what a well-formed text does.
--- Assumes nothing.
 use Rattle.terms.proofs.ToldBack.{no-zero}
 use borrow.Author.Needs.{needs}
 use Rattle.demand_convert.proofs.refused_so.Statement.{statement}
@@ -17,17 +16,17 @@ number-requires c κs = search needs
 number-requires-2 : tie.Need-number-requires-2
 number-requires-2 c κs = search needs
 
-first-requires : tie.Need-first-requires
-first-requires c κs = search needs
+first-value-requires : tie.Need-first-value-requires
+first-value-requires c κs = search needs
 
-first-requires-2 : tie.Need-first-requires-2
-first-requires-2 c κs = search needs
+first-value-requires-2 : tie.Need-first-value-requires-2
+first-value-requires-2 c κs = search needs
 
-second-requires : tie.Need-second-requires
-second-requires c κs = search needs
+second-value-requires : tie.Need-second-value-requires
+second-value-requires c κs = search needs
 
-second-requires-2 : tie.Need-second-requires-2
-second-requires-2 c κs = search needs
+second-value-requires-2 : tie.Need-second-value-requires-2
+second-value-requires-2 c κs = search needs
 
 returns : tie.Need-returns
 returns c = rw (c .enum-told .given .1, no-zero (c .before .before .args .why))
@@ -40,10 +39,10 @@ returns-2 c =
       k .check .given .1,
       n .before .number .ensures,
       n .number2 .ensures,
-      c .before .before .before .first .ensures,
-      c .before .before .first2 .ensures,
-      c .before .second .ensures,
-      c .second2 .ensures,
+      c .before .before .before .first-value .ensures,
+      c .before .before .first-value2 .ensures,
+      c .before .second-value .ensures,
+      c .second-value2 .ensures,
     )
 
 pub refused-so-spec : {M : Type 1} → statement M
@@ -54,9 +53,9 @@ refused-so-spec =
     enum-known-check
     number-requires
     number-requires-2
-    first-requires
-    first-requires-2
-    second-requires
-    second-requires-2
+    first-value-requires
+    first-value-requires-2
+    second-value-requires
+    second-value-requires-2
     returns
     returns-2)

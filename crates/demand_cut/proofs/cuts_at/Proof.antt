@@ -1,8 +1,7 @@
 -- `cuts_at` meets its contract: each cut is what lies before the place.
--- Assumes nothing.
 use borrow.Author.Needs.{needs}
 use Rattle.place.proofs.MeasuresRise.{bytes-rise, units-rise, points-rise}
-use Rattle.demand_cut.specs.Cuttings.{IsPlace}
+use Rattle.demand_cut.specs.Inside.Cuttings.{IsPlace}
 use Rattle.demand_cut.proofs.CutIsBefore.{place-long, same-cut}
 use Rattle.demand_cut.proofs.cuts_at.Statement.{statement}
 use Rattle.demand_cut.proofs.cuts_at.Tie as tie

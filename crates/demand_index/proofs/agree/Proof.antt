@@ -1,5 +1,4 @@
 -- `agree` meets its contract: two that tell the same are the same.
--- Assumes nothing.
 use borrow.Author.Needs.{needs}
 use Rattle.demand_index.proofs.AnswersCompared.{agree-told}
 use Rattle.demand_index.proofs.agree.Statement.{statement}

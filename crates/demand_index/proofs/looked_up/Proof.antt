@@ -1,5 +1,4 @@
 -- `looked_up` meets its contract: the third demand where the index was built, or the refusal was right.
--- Assumes nothing.
 use mathlib.Core.Path.{_∙_}
 use borrow.Author.Tests.{not-true, not-false}
 use borrow.Author.Needs.{needs}

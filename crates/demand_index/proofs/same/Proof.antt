@@ -1,5 +1,4 @@
 -- `same` meets its contract: by the cases of the two answers.
--- Assumes nothing.
 use borrow.Author.Needs.{needs}
 use Rattle.demand_index.proofs.AnswersCompared.{both-places, both-refusals, place-refusal, refusal-place}
 use Rattle.demand_index.proofs.same.Statement.{statement}

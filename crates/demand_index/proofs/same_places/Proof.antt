@@ -1,5 +1,4 @@
 -- `same_places` meets its contract: its four tests compare the counts.
--- Assumes nothing.
 use Rattle.demand_index.proofs.AnswersCompared.{places-exactly}
 use Rattle.demand_index.proofs.same_places.Statement.{statement}
 use Rattle.demand_index.proofs.same_places.Tie as tie

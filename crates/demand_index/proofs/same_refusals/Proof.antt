@@ -1,5 +1,4 @@
 -- `same_refusals` meets its contract: its three tests compare the numbers told.
--- Assumes nothing.
 use borrow.Author.Needs.{needs}
 use Rattle.demand_index.proofs.AnswersCompared.{refusals-exactly}
 use Rattle.demand_index.proofs.same_refusals.Statement.{statement}
@@ -11,17 +10,17 @@ number-requires c κs = search needs
 number-requires-2 : tie.Need-number-requires-2
 number-requires-2 c κs = search needs
 
-first-requires : tie.Need-first-requires
-first-requires c κs = search needs
+first-value-requires : tie.Need-first-value-requires
+first-value-requires c κs = search needs
 
-first-requires-2 : tie.Need-first-requires-2
-first-requires-2 c κs = search needs
+first-value-requires-2 : tie.Need-first-value-requires-2
+first-value-requires-2 c κs = search needs
 
-second-requires : tie.Need-second-requires
-second-requires c κs = search needs
+second-value-requires : tie.Need-second-value-requires
+second-value-requires c κs = search needs
 
-second-requires-2 : tie.Need-second-requires-2
-second-requires-2 c κs = search needs
+second-value-requires-2 : tie.Need-second-value-requires-2
+second-value-requires-2 c κs = search needs
 
 returns : tie.Need-returns
 returns c =
@@ -30,10 +29,10 @@ returns c =
     rw (
       n .before .number .ensures,
       n .number2 .ensures,
-      c .before .before .before .first .ensures,
-      c .before .before .first2 .ensures,
-      c .before .second .ensures,
-      c .second2 .ensures,
+      c .before .before .before .first-value .ensures,
+      c .before .before .first-value2 .ensures,
+      c .before .second-value .ensures,
+      c .second-value2 .ensures,
     )
     (refusals-exactly (a .a) (a .b))
 
@@ -43,8 +42,8 @@ same-refusals-spec =
     (tie.spec
     number-requires
     number-requires-2
-    first-requires
-    first-requires-2
-    second-requires
-    second-requires-2
+    first-value-requires
+    first-value-requires-2
+    second-value-requires
+    second-value-requires-2
     returns)

@@ -1,15 +1,14 @@
 -- `alike` meets its contract: the whole repair, and then both ways.
--- Assumes nothing.
 use mathlib.Core.Path.{sym, ap, _∙_}
 use Prim.Native.Nat.{_≤_}
 use lib.ListN.{length}
 use lib.Seq.{length-take-le}
 use native.Mathlib.Omega.{arith}
 use Rattle.terms.specs.Form.{repaired}
-use Rattle.terms.specs.Told.{refusal}
+use Rattle.terms.specs.Told.{toldRefusal}
 use Rattle.terms.proofs.AnswersWritten.{repair-count}
 use Rattle.utf8.specs.Scalar.{utf8}
-use Rattle.demand_pieces.specs.Pieces.{due}
+use Rattle.demand_pieces.specs.Inside.Comparing.{due}
 use Rattle.demand_pieces.proofs.WholeRepairLeft.{repair-wrote, repair-within, repair-due, leaves-granted, leaves-refused}
 use borrow.Author.Needs.{needs}
 use Rattle.demand_pieces.proofs.alike.Statement.{statement}
@@ -89,7 +88,7 @@ returns-2 c =
     record {
       yes =
           c .is-due .ensures
-          ∙ ap (λ n. due (refusal why) (length (a .text .now)) n) (r .repair .kept .1 .0)
+          ∙ ap (λ n. due (toldRefusal why) (length (a .text .now)) n) (r .repair .kept .1 .0)
           ∙ repair-due (a .text .now) (a .whole .now) (r .repair .ensures) why (w .why .given .1);
       buffers = leaves-refused (a .room) (a .text .now) (a .cuts .now) (a .scant) (a .whole .now) (a .once .now) (a .once-list .now) (a .parts .now) (a .parts-list .now)
           (r .repair .ensures) why (w .why .given .1);

@@ -1,5 +1,4 @@
 -- `fed_alike` meets its contract: each way is granted exactly where it has room, and what both have found is what the text says.
--- Assumes nothing.
 use mathlib.Core.Path.{_≡_, refl, sym, ap, ap₂, _∙_}
 use Prim.Native.Nat.{_≤_, _*_}
 use mathlib.Core.Bool.{true≢false}

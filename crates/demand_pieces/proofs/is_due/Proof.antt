@@ -1,9 +1,8 @@
 -- `is_due` meets its contract: its tests are the definition's.
--- Assumes nothing.
 use mathlib.Core.Path.{sym, _∙_}
 use lib.ListN.{getD}
 use borrow.Author.Tests.{eq-eqb, ne-eqb}
-use Rattle.terms.specs.Told.{refusal}
+use Rattle.terms.specs.Told.{toldRefusal}
 use borrow.Author.Needs.{needs}
 use Rattle.demand_pieces.proofs.is_due.Statement.{statement}
 use Rattle.demand_pieces.proofs.is_due.Tie as tie
@@ -15,7 +14,7 @@ returns : tie.Need-returns
 returns c =
     let n = c .before in
     let why = n .before .args .why in
-    rw (eq-eqb (getD (refusal why) 0 0) 2 (sym (n .number .ensures) ∙ c .if1 .taken))
+    rw (eq-eqb (getD (toldRefusal why) 0 0) 2 (sym (n .number .ensures) ∙ c .if1 .taken))
 
 number-requires-2 : tie.Need-number-requires-2
 number-requires-2 c κs = search needs
@@ -27,12 +26,12 @@ returns-2 c =
     let n = e .before in
     let why = n .before .args .why in
     rw (
-      ne-eqb (getD (refusal why) 0 0) 2 (λ q. e .if1 .left (n .number .ensures ∙ q)),
-      ne-eqb (getD (refusal why) 0 0) 3 (λ q. c .if2 .taken (m .number2 .ensures ∙ q)),
+      ne-eqb (getD (toldRefusal why) 0 0) 2 (λ q. e .if1 .left (n .number .ensures ∙ q)),
+      ne-eqb (getD (toldRefusal why) 0 0) 3 (λ q. c .if2 .taken (m .number2 .ensures ∙ q)),
     )
 
-first-requires : tie.Need-first-requires
-first-requires c κs = search needs
+first-value-requires : tie.Need-first-value-requires
+first-value-requires c κs = search needs
 
 returns-3 : tie.Need-returns-3
 returns-3 c =
@@ -42,12 +41,12 @@ returns-3 c =
     let n = e .before in
     let why = n .before .args .why in
     rw (
-      c .first .ensures,
-      ne-eqb (getD (refusal why) 0 0) 2 (λ q. e .if1 .left (n .number .ensures ∙ q)),
-      eq-eqb (getD (refusal why) 0 0) 3 (sym (m .number2 .ensures) ∙ d .if2 .left),
+      c .first-value .ensures,
+      ne-eqb (getD (toldRefusal why) 0 0) 2 (λ q. e .if1 .left (n .number .ensures ∙ q)),
+      eq-eqb (getD (toldRefusal why) 0 0) 3 (sym (m .number2 .ensures) ∙ d .if2 .left),
     )
 
 pub is-due-spec : {M : Type 1} → statement M
 is-due-spec =
     tie.close
-    (tie.spec number-requires returns number-requires-2 returns-2 first-requires returns-3)
+    (tie.spec number-requires returns number-requires-2 returns-2 first-value-requires returns-3)

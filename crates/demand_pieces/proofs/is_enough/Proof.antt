@@ -1,5 +1,4 @@
 -- `is_enough` meets its contract: its tests are the definition's.
--- Assumes nothing.
 use Prim.Native.Nat.{_*_}
 use borrow.Author.Tests.{lt-leb, le-leb}
 use Rattle.terms.specs.Limits.{mostRoom, entryWidth}

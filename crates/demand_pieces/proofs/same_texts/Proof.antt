@@ -1,5 +1,4 @@
 -- `same_texts` meets its contract: each comparison in turn.
--- Assumes nothing.
 use mathlib.Core.Path.{sym, _∙_}
 use borrow.Author.Tests.{not-true, not-false}
 use borrow.Author.Needs.{needs}
@@ -20,15 +19,15 @@ returns-2 c =
     let e = c .before .before in
     rw (sym (e .before .same-bytes .ensures) ∙ not-false _ (e .if1 .left), sym (c .before .same-bytes2 .ensures) ∙ not-true _ (c .if2 .taken))
 
-same-codes-requires : tie.Need-same-codes-requires
-same-codes-requires c κs = search needs
+same-numbers-requires : tie.Need-same-numbers-requires
+same-numbers-requires c κs = search needs
 
 returns-3 : tie.Need-returns-3
 returns-3 c =
     let d = c .before in
     let e = d .before .before in
     rw (sym (e .before .same-bytes .ensures) ∙ not-false _ (e .if1 .left), sym (d .before .same-bytes2 .ensures) ∙ not-false _ (d .if2 .left))
-    (c .same-codes .ensures)
+    (c .same-numbers .ensures)
 
 pub same-texts-spec : {M : Type 1} → statement M
 same-texts-spec =
@@ -38,5 +37,5 @@ same-texts-spec =
     returns
     same-bytes-requires-2
     returns-2
-    same-codes-requires
+    same-numbers-requires
     returns-3)

@@ -1,5 +1,4 @@
 -- `same_totals` meets its contract: its tests are the definition's.
--- Assumes nothing.
 use borrow.Author.Tests.{eq-eqb, ne-eqb}
 use Rattle.demand_pieces.proofs.same_totals.Statement.{statement}
 use Rattle.demand_pieces.proofs.same_totals.Tie as tie

@@ -1,5 +1,4 @@
 -- `bring` meets its contract: its two tests.
--- Assumes nothing.
 use borrow.Author.Tests.{lt-ltb, le-ltb}
 use Rattle.demand_shared.proofs.bring.Statement.{statement}
 use Rattle.demand_shared.proofs.bring.Tie as tie

@@ -1,5 +1,4 @@
 -- `is_due` meets its contract: case by case.
--- Assumes nothing.
 use Rattle.demand_watch.proofs.SameStates.{short-list}
 use borrow.Author.Needs.{needs}
 use Rattle.demand_watch.proofs.is_due.Statement.{statement}

@@ -1,5 +1,4 @@
 -- `same_state` meets its contract: at the first field that differs, or where none does.
--- Assumes nothing.
 use mathlib.Core.Path.{sym, ap, _∙_}
 use mathlib.Core.Bool.{true≢false}
 use borrow.Author.Tests.{not-true, not-false}

@@ -1,5 +1,4 @@
 -- `watch_all` meets its contract: the bytes before i were watched.
--- Assumes nothing.
 use Prim.Native.Nat.{_-_, _≤_}
 use mathlib.Core.Path.{_≡_, sym, ap, _∙_}
 use lib.ListN.{length, drop, drop-of-length-le}

@@ -1,8 +1,7 @@
 -- `watched` meets its contract: a granted feed came to what was watched, and a refused one was due.
--- Assumes nothing.
 use mathlib.Core.Path.{sym, ap, _∙_}
 use Rattle.terms.specs.Limits.{freshOf}
-use Rattle.terms.specs.Told.{written}
+use Rattle.terms.specs.Told.{toldWritten}
 use Rattle.decoder.specs.Feeding.{Feeds}
 use Rattle.demand_watch.proofs.WatchedAsFed.{Same, same-as-fed}
 use Rattle.demand_watch.proofs.SameStates.{same-if, refused-due}
@@ -97,7 +96,7 @@ returns-3 c =
     record {
       yes =
           rw (f .feed .kept .1 .1 .0, f .feed .kept .1 .1 .1 .0) at (c .is-due .ensures)
-          ∙ refused-due (a .room) (a .text .now) (a .out .now) (a .list .now) (why .0 .0) (sym (ap written (why .1)) ∙ did f .answer);
+          ∙ refused-due (a .room) (a .text .now) (a .out .now) (a .list .now) (why .0 .0) (sym (ap toldWritten (why .1)) ∙ did f .answer);
       output = did f .output;
       entries = did f .entries;
     }

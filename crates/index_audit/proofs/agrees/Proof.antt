@@ -1,5 +1,4 @@
 -- `agrees` meets its contract: its four tests compare the two places' counts.
--- Assumes nothing.
 use mathlib.Core.Path.{_∙_}
 use borrow.Author.Needs.{needs}
 use Rattle.index_audit.proofs.ComparedByNumbers.{same-places}

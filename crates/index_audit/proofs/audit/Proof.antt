@@ -1,5 +1,4 @@
 -- `audit` meets its contract: from the checkpoint that it has come to, what is left to compare decides.
--- Assumes nothing.
 use mathlib.Core.Path.{_≡_, sym, _∙_}
 use Prim.Native.Nat.{_-_, _*_, _<_}
 use lib.ListN.{length}

@@ -1,5 +1,4 @@
 -- `end` meets its contract: checkpoint 0 is written, and what is pending is one segment.
--- Assumes nothing.
 use mathlib.Core.Path.{_≡_, refl, sym, ap, _∙_}
 use lib.ListN.{length, length-map}
 use lib.Seq.{length-sets}
@@ -29,8 +28,8 @@ returns c =
     let z = m .before .before .before in
     m .mark-start .ensures ∙ end-none (z .args .state) (z .args .row .now) (passes z) (three z) (c .if1 .taken)
 
-settled-requires : tie.Need-settled-requires
-settled-requires c κs = search needs
+settled-place-requires : tie.Need-settled-place-requires
+settled-place-requires c κs = passes (c .before .before .before .before .before .before .before) .covers
 
 array-read-advance : tie.Need-array-read-advance
 array-read-advance c = search needs
@@ -41,7 +40,7 @@ advance-requires c κs =
     let e = p .before .before in
     let m = e .before .before .before in
     let z = m .before .before .before in
-    rw (p .settled .ensures)
+    rw (p .settled-place .ensures)
     (end-ahead (z .args .state) (z .args .row .now) (passes z) (three z) (e .if1 .left) _
     (ap length (m .mark-start .ensures) ∙ simp length-sets) (z .pre))
 
@@ -56,7 +55,7 @@ returns-2 c =
     let m = e .before .before .before in
     let z = m .before .before .before in
     end-some (z .args .state) (z .args .row .now) (passes z) (three z) (e .if1 .left)
-    (m .mark-start .ensures) refl (rw (p .settled .ensures) at (v .advance .ensures))
+    (m .mark-start .ensures) refl (rw (p .settled-place .ensures) at (v .advance .ensures))
 
 pub end-spec : {M : Type 1} → statement M
 end-spec =
@@ -65,7 +64,7 @@ end-spec =
     mark-start-requires
     same-length
     returns
-    settled-requires
+    settled-place-requires
     array-read-advance
     advance-requires
     same-length-2

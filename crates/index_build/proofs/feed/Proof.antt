@@ -1,9 +1,8 @@
 -- `feed` meets its contract: the checks, and then the piece is taken.
--- Assumes nothing.
 use mathlib.Core.Path.{sym, ap, _∙_}
 use lib.ListN.{length}
-use Rattle.index_build.specs.State.{building}
-use Rattle.index_build.specs.Steps.{Granted}
+use Rattle.index_build.specs.State.{toldBuilding}
+use Rattle.index_build.specs.Inside.Steps.{Granted}
 use Rattle.index_build.proofs.GrantedOrRefused.{done-granted, feed-done, feed-refused}
 use borrow.Author.Needs.{needs}
 use Rattle.index_build.proofs.feed.Statement.{statement}
@@ -21,7 +20,7 @@ granted : (c : tie.After-enum-told)
 granted c =
     let k = c .before .before in
     let a = k .before .before .before .args in
-    done-granted (a .state) (length (a .piece .now)) (a .row .now) (sym (ap building (c .enum-told .given .1)) ∙ k .check .ensures)
+    done-granted (a .state) (length (a .piece .now)) (a .row .now) (sym (ap toldBuilding (c .enum-told .given .1)) ∙ k .check .ensures)
 
 take-requires : tie.Need-take-requires
 take-requires c κs = granted (c .before)
@@ -44,7 +43,7 @@ returns-2 c =
     let w = c .before in
     let k = w .before .before in
     let a = k .before .before .before .args in
-    feed-refused (a .state) (a .piece .now) (a .row .now) (w .why .given .0 .0) (sym (ap building (w .why .given .1)) ∙ k .check .ensures)
+    feed-refused (a .state) (a .piece .now) (a .row .now) (w .why .given .0 .0) (sym (ap toldBuilding (w .why .given .1)) ∙ k .check .ensures)
 
 pub feed-spec : {M : Type 1} → statement M
 feed-spec =

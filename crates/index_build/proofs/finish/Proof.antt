@@ -1,8 +1,7 @@
 -- `finish` meets its contract: the checks, and then the end.
--- Assumes nothing.
 use mathlib.Core.Path.{sym, ap, _∙_}
-use Rattle.index_build.specs.State.{building}
-use Rattle.index_build.specs.Steps.{Granted}
+use Rattle.index_build.specs.State.{toldBuilding}
+use Rattle.index_build.specs.Inside.Steps.{Granted}
 use Rattle.index_build.proofs.GrantedOrRefused.{done-granted, finish-done, finish-refused}
 use borrow.Author.Needs.{needs}
 use Rattle.index_build.proofs.finish.Statement.{statement}
@@ -19,7 +18,7 @@ granted : (c : tie.After-enum-told) → let a = c .before .before .before .befor
 granted c =
     let k = c .before .before in
     let a = k .before .before .args in
-    done-granted (a .state) 0 (a .row .now) (sym (ap building (c .enum-told .given .1)) ∙ k .check .ensures)
+    done-granted (a .state) 0 (a .row .now) (sym (ap toldBuilding (c .enum-told .given .1)) ∙ k .check .ensures)
 
 end-requires : tie.Need-end-requires
 end-requires c κs = granted (c .before)
@@ -45,7 +44,7 @@ returns-2 c =
     let w = c .before in
     let k = w .before .before in
     let a = k .before .before .args in
-    finish-refused (a .state) (a .row .now) (w .why .given .0 .0) (sym (ap building (w .why .given .1)) ∙ k .check .ensures)
+    finish-refused (a .state) (a .row .now) (w .why .given .0 .0) (sym (ap toldBuilding (w .why .given .1)) ∙ k .check .ensures)
 
 pub finish-spec : {M : Type 1} → statement M
 finish-spec =

@@ -1,5 +1,4 @@
 -- `join` meets its contract: all of the seam is pending still, or its segment is settled and the piece goes on.
--- Assumes nothing.
 use Prim.Native.Nat.{ℕ, _+_, _-_, _≤_}
 use mathlib.Core.Path.{_≡_, refl, sym, subst, _∙_}
 use mathlib.Core.List.{List}
@@ -9,11 +8,12 @@ use Rattle.theory.specs.Stream.{State}
 use Rattle.theory.specs.Tally.{total, size}
 use Rattle.theory.specs.Index.{Built}
 use Rattle.terms.proofs.WalkBySegments.{part-is}
-use Rattle.utf8_pending.specs.Tail.{settled}
+use Rattle.utf8_pending.specs.Tail.{firstSettled}
 use Rattle.utf8_pending.proofs.SettledFirst.{told-size}
 use Rattle.place.specs.declared.Place.{Place}
-use Rattle.index_build.specs.State.{settled as place}
-use Rattle.index_build.specs.Steps.{Advances, streamOf, Walks, Closes}
+use Rattle.index_build.specs.State.{settledPlace as place}
+use Rattle.index_build.specs.Inside.Steps.{Advances, streamOf, Walks, Closes}
+use Rattle.index_build.proofs.TestsAsFacts.{sound-is}
 use Rattle.index_build.proofs.SeamAndPending.{join-none, join-some, join-over, join-inside, join-ahead, join-walks, join-behind}
 use borrow.Author.Needs.{needs}
 use Rattle.index_build.proofs.join.Statement.{statement}
@@ -22,8 +22,8 @@ use Rattle.index_build.proofs.join.Tie as tie
 add-taken : tie.Need-add-taken
 add-taken c = search needs
 
-settled-requires : tie.Need-settled-requires
-settled-requires c κs = search needs
+settled-place-requires : tie.Need-settled-place-requires
+settled-place-requires c κs = let z = c .before .before .before .before in sound-is (z .args .state) (z .pre .granted .tests) .covers
 
 segment-requires : tie.Need-segment-requires
 segment-requires c κs = search needs
@@ -33,7 +33,7 @@ settled-size-requires c κs = search needs
 
 -- how many bytes are settled at the seam
 size-is : (c : tie.After-settled-size)
-    → c .settled-size .result ≡ total size (settled (c .before .before .before .before .before .before .before .args .seam .now))
+    → c .settled-size .result ≡ total size (firstSettled (c .before .before .before .before .before .before .before .args .seam .now))
 size-is c =
     let s = c .before in
     let seam = s .before .before .before .before .before .before .args .seam .now in
@@ -50,9 +50,9 @@ returns c =
     let z = p .before .before .before .before .before in
     let a = z .args in
     join-none (a .state) (a .piece .now) (a .seam .now) (a .row .now) (z .pre) (sym (size-is s) ∙ i .if1 .taken)
-    (a .state .taken + length (a .piece .now)) (c .keep .result) (rw (p .settled .ensures) at (c .keep .ensures))
+    (a .state .taken + length (a .piece .now)) (c .keep .result) (rw (p .settled-place .ensures) at (c .keep .ensures))
 
-some : (c : tie.Else1) → total size (settled (c .before .before .before .before .before .before .before .before .args .seam .now)) ≡ 0 → ⊥
+some : (c : tie.Else1) → total size (firstSettled (c .before .before .before .before .before .before .before .before .args .seam .now)) ≡ 0 → ⊥
 some c n = c .if1 .left (size-is (c .before) ∙ n)
 
 shared-slice-read-advance : tie.Need-shared-slice-read-advance
@@ -67,18 +67,18 @@ advance-requires c κs =
     let s = e .before in
     let p = s .before .before in
     let z = p .before .before .before .before .before in
-    rw (size-is s, p .settled .ensures)
+    rw (size-is s, p .settled-place .ensures)
     (join-ahead (z .args .state) (z .args .piece .now) (z .args .seam .now) (z .args .row .now) (z .pre) (some e))
 
 -- the segment at the seam is passed
 passed : (c : tie.After-advance)
     → let s = c .before .before .before .before in
     let z = s .before .before .before .before .before .before .before in
-    Advances (place (z .args .state)) (total size (settled (z .args .seam .now))) (getD (z .args .seam .now) 0 0) (z .args .row .now)
+    Advances (place (z .args .state)) (total size (firstSettled (z .args .seam .now))) (getD (z .args .seam .now) 0 0) (z .args .row .now)
     (c .advance .last .1 .1 .1 .0) (c .advance .result)
 passed c =
     let s = c .before .before .before .before in
-    rw (size-is s, s .before .before .settled .ensures) at (c .advance .ensures)
+    rw (size-is s, s .before .before .settled-place .ensures) at (c .advance .ensures)
 
 -- it reaches over what is pending, and ends in the piece
 over : (c : tie.Else1)
@@ -98,7 +98,7 @@ rest-is : (c : tie.Else1)
     → let z = c .before .before .before .before .before .before .before .before in
     let from = c .before .settled-size .result - z .args .state .pending in
     let piece = z .args .piece .now in
-    take (length piece - from) (drop from piece) ≡ drop (total size (settled (z .args .seam .now)) - z .args .state .pending) piece
+    take (length piece - from) (drop from piece) ≡ drop (total size (firstSettled (z .args .seam .now)) - z .args .state .pending) piece
 rest-is c = rw (part-is, size-is (c .before))
 
 sub-from : tie.Need-sub-from
@@ -144,7 +144,7 @@ join-spec =
     tie.close
     (tie.spec
     add-taken
-    settled-requires
+    settled-place-requires
     segment-requires
     settled-size-requires
     keep-requires

@@ -1,5 +1,4 @@
 -- `keep` meets its contract: what is left is held.
--- Assumes nothing.
 use borrow.Author.Needs.{needs}
 use Rattle.index_build.proofs.keep.Statement.{statement}
 use Rattle.index_build.proofs.keep.Tie as tie

@@ -1,5 +1,4 @@
 -- `mark_start` meets its contract: every count of the start is 0.
--- Assumes nothing.
 use mathlib.Core.Path.{_∙_}
 use native.Mathlib.Omega.{arith}
 use Rattle.place.specs.Measures.{place}

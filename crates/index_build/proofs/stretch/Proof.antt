@@ -1,5 +1,4 @@
 -- `stretch` meets its contract: the stream behind the text is that behind the rest, from the place reached.
--- Assumes nothing.
 use Prim.Native.Nat.{_+_}
 use native.Mathlib.Nat.{add-zero}
 use mathlib.Core.Path.{_≡_, sym, subst, _∙_}
@@ -9,9 +8,9 @@ use native.Mathlib.Omega.{arith}
 use borrow.Author.Needs.{needs}
 use Rattle.theory.specs.Tally.{total, size}
 use Rattle.terms.proofs.WalkBySegments.{part-is}
-use Rattle.utf8_pending.specs.Tail.{settled}
+use Rattle.utf8_pending.specs.Tail.{firstSettled}
 use Rattle.utf8_pending.proofs.SettledFirst.{told-size}
-use Rattle.index_build.specs.Steps.{Walked}
+use Rattle.index_build.specs.Inside.Steps.{Walked}
 use Rattle.index_build.proofs.StreamBehindWalk.{walked-start, walked-some, walked-ahead, walked-next, walked-stretched}
 use Rattle.index_build.proofs.stretch.Statement.{statement}
 use Rattle.index_build.proofs.stretch.Tie as tie
@@ -46,7 +45,7 @@ settled-size-requires c κs = search needs
 -- how many bytes are settled there
 size-is : (c : tie.After-settled-size Inv-loop μ-loop)
     → let l = c .before .before .before .before in
-    c .settled-size .result ≡ total size (settled (drop (l .loop .at) (l .before .before .before .args .text .now)))
+    c .settled-size .result ≡ total size (firstSettled (drop (l .loop .at) (l .before .before .before .args .text .now)))
 size-is c =
     let s = c .before in
     let l = s .before .before .before in
@@ -62,11 +61,11 @@ returns c =
     let l = s .before .before .before .before in
     let z = l .before .before .before in
     walked-stretched (z .args .text .now) (z .args .from) (z .args .row .now) (l .loop .inv .0)
-    (λ e. subst (λ k. total size (settled (drop k (z .args .text .now))) ≡ 0) e (sym (size-is s) ∙ c .if1 .taken))
+    (λ e. subst (λ k. total size (firstSettled (drop k (z .args .text .now))) ≡ 0) e (sym (size-is s) ∙ c .if1 .taken))
 
 some : (c : tie.Else1 Inv-loop μ-loop)
     → let l = c .before .before .before .before .before in
-    total size (settled (drop (l .loop .at) (l .before .before .before .args .text .now))) ≡ 0 → ⊥
+    total size (firstSettled (drop (l .loop .at) (l .before .before .before .args .text .now))) ≡ 0 → ⊥
 some c n = c .if1 .left (size-is (c .before) ∙ n)
 
 shared-slice-read-advance : tie.Need-shared-slice-read-advance Inv-loop μ-loop

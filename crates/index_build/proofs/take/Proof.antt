@@ -1,5 +1,4 @@
 -- `take` meets its contract: checkpoint 0 is written, and the piece is taken behind the seam.
--- Assumes nothing.
 use Prim.Native.Nat.{_≤_}
 use mathlib.Core.Path.{_≡_, sym, ap, _∙_}
 use lib.ListN.{length, take, length-map}

@@ -1,5 +1,4 @@
 -- `walk` meets its contract: the stream behind the text is that behind the rest, from the place reached.
--- Assumes nothing.
 use Prim.Native.Nat.{_+_, _-_, _≤_, _<_}
 use mathlib.Core.Path.{_≡_}
 use lib.ListN.{length, drop}
@@ -7,8 +6,9 @@ use native.Mathlib.Omega.{arith}
 use borrow.Author.Needs.{needs}
 use Rattle.theory.specs.Tally.{total, size}
 use Rattle.terms.proofs.WalkBySegments.{part-is}
-use Rattle.utf8_pending.specs.Tail.{settled}
-use Rattle.index_build.specs.Steps.{Walked, Stretched}
+use Rattle.utf8_pending.specs.Tail.{firstSettled}
+use Rattle.utf8_check.proofs.RunsPassed.{wait-some}
+use Rattle.index_build.specs.Inside.Steps.{Walked, Stretched}
 use Rattle.index_build.proofs.StreamBehindWalk.{walked-start, walked-walks, walked-end, stretched-on, stretched-none, stretched-some}
 use Rattle.index_build.proofs.WalkBehindRun.{run-inside, run-runs, run-walked}
 use Rattle.index_build.proofs.walk.Statement.{statement}
@@ -125,7 +125,7 @@ none : (c : tie.Then1 Inv-loop μ-loop)
     let a = l .before .before .before .args in
     let end = l .loop .at + r .whole-run .result in
     Walked (a .text .now) (a .from) (a .row .now) (s .stretch .last .1 .1 .1 .0) (s .stretch .result) end
-    × (total size (settled (drop end (a .text .now))) ≡ 0)
+    × (total size (firstSettled (drop end (a .text .now))) ≡ 0)
 none c =
     let s = c .before .before .before .before .before in
     let k = s .before .before .before .before .before in
@@ -160,9 +160,7 @@ sub-at : tie.Need-sub-at Inv-loop μ-loop
 sub-at c = some (c .before .before) .0
 
 wait-behind-requires : tie.Need-wait-behind-requires Inv-loop μ-loop
-wait-behind-requires c κs =
-    let k = c .before .before .before .before .before .before .before .before .before .before .before .before in
-    k .before .before .before .before .before .loop .inv .1
+wait-behind-requires c κs = search needs
 
 -- behind them
 turned : (c : tie.After-stretch Inv-loop μ-loop)
@@ -181,7 +179,11 @@ loop-less c =
     omega (arith, t .inside, some e .1)
 
 loop-again : tie.Need-loop-again Inv-loop μ-loop
-loop-again c = (turned (c .before .before .before .before .before .before .before .before), c .wait-behind .ensures)
+loop-again c =
+    let s = c .before .before .before .before .before .before .before .before in
+    let r = s .before .before .before .before .before .before .before .before in
+    let l = r .before .before in
+    (turned s, rw (c .wait-behind .ensures) (wait-some (l .loop .wait) (r .whole-run .result) (l .loop .inv .1)))
 
 pub walk-spec : {M : Type 1} → statement M
 walk-spec =

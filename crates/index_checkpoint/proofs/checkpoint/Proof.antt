@@ -1,5 +1,4 @@
 -- `checkpoint` meets its contract: it reads its numbers, from the first on.
--- Assumes nothing.
 use mathlib.Core.Path.{_∙_}
 use borrow.Author.Needs.{needs}
 use Rattle.index_checkpoint.proofs.ReadBack.{checkpoint-is, checkpoint-past}

@@ -1,5 +1,4 @@
 -- `halve` meets its contract: between low and high halving still chooses the same.
--- Assumes nothing.
 use mathlib.Core.Path.{_≡_, sym, _∙_}
 use Prim.Native.Nat.{_-_, _≤_, _<_}
 use native.Mathlib.Nat.{sub-zero}

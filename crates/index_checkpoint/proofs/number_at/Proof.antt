@@ -1,5 +1,4 @@
 -- `number_at` meets its contract: behind the last number it is 0.
--- Assumes nothing.
 use mathlib.Core.Path.{sym}
 use lib.ListN.{List·getD-eq-default}
 use native.Mathlib.Omega.{arith}

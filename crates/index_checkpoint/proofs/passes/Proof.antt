@@ -1,5 +1,4 @@
 -- `passes` meets its contract: each arm tests its own measure.
--- Assumes nothing.
 use borrow.Author.Needs.{needs}
 use Rattle.index_checkpoint.proofs.passes.Statement.{statement}
 use Rattle.index_checkpoint.proofs.passes.Tie as tie

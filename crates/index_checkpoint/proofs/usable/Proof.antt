@@ -1,5 +1,4 @@
 -- `usable` meets its contract: its tests are the definition's.
--- Assumes nothing.
 use borrow.Author.Needs.{needs}
 use Rattle.place.specs.Walk.{number, measure}
 use Rattle.index_checkpoint.proofs.UsableByTests.{usable-other, usable-far, usable-near}

@@ -1,5 +1,4 @@
 -- `at_byte` meets its contract: refusals 2, 3 and 4, then lookup from the checkpoint that division chooses.
--- Assumes nothing.
 use mathlib.Core.Path.{_∙_}
 use Prim.Native.Nat.{_≤_}
 use lib.ListN.{length}

@@ -1,5 +1,4 @@
 -- `by_halving` meets its contract: refusals 2 and 3, then lookup from the checkpoint that halving chooses.
--- Assumes nothing.
 use mathlib.Core.Path.{_∙_}
 use Prim.Native.Nat.{_≤_}
 use lib.ListN.{length}

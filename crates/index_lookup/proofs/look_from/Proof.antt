@@ -1,5 +1,4 @@
 -- `look_from` meets its contract: refusal 6, or plain lookup from the checkpoint on.
--- Assumes nothing.
 use mathlib.Core.Path.{_≡_, sym, _∙_}
 use Prim.Native.Nat.{_≤_}
 use mathlib.Core.Bool.{true}

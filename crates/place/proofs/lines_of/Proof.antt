@@ -1,5 +1,4 @@
 -- `lines_of` meets its contract: its test is the definition's.
--- Assumes nothing.
 use borrow.Author.Tests.{eq-eqb, ne-eqb}
 use Rattle.place.proofs.lines_of.Statement.{statement}
 use Rattle.place.proofs.lines_of.Tie as tie

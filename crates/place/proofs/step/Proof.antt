@@ -1,5 +1,4 @@
 -- `step` meets its contract: the segment that the reader told is added in all four counts.
--- Assumes nothing.
 use native.Mathlib.Omega.{arith}
 use borrow.Author.Needs.{needs}
 use Rattle.place.proofs.OneStep.{stepped-end, added}

@@ -1,5 +1,4 @@
 -- `units_of` meets its contract: its test is the definition's.
--- Assumes nothing.
 use borrow.Author.Tests.{eq-eqb, ne-eqb}
 use Rattle.place.proofs.units_of.Statement.{statement}
 use Rattle.place.proofs.units_of.Tie as tie

@@ -1,5 +1,4 @@
 -- `cut` meets its contract: it ends where the last place lies that counts at most so much.
--- Assumes nothing.
 use mathlib.Core.Path.{_≡_, sym, ap, _∙_}
 use lib.ListN.{take}
 use lib.Seq.{length-take-le}

@@ -1,5 +1,4 @@
 -- `last` meets its contract: the refusals, then the last place.
--- Assumes nothing.
 use mathlib.Core.Path.{_≡_, sym, _∙_}
 use mathlib.Core.Bool.{true, false}
 use lib.ListN.{length}

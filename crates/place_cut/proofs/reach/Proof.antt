@@ -1,5 +1,4 @@
 -- `reach` meets its contract: from the place that the walk has come to, the last place is still the same.
--- Assumes nothing.
 use Prim.Native.Nat.{_-_}
 use lib.ListN.{length}
 use native.Mathlib.Omega.{arith}

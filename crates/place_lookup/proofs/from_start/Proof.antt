@@ -1,5 +1,4 @@
 -- `from_start` meets its contract: refusal 2, then the walk from the start of the text.
--- Assumes nothing.
 use mathlib.Core.Path.{_∙_}
 use native.Mathlib.Omega.{arith}
 use borrow.Author.Needs.{needs}

@@ -1,5 +1,4 @@
 -- `resume` meets its contract: the refusals, then the walk.
--- Assumes nothing.
 use mathlib.Core.Path.{_≡_, sym, _∙_}
 use mathlib.Core.Bool.{true, false}
 use lib.ListN.{length}

@@ -1,5 +1,4 @@
 -- `walk` meets its contract: at the place that the walk has come to, lookup still gives the same.
--- Assumes nothing.
 use Prim.Native.Nat.{_-_, _<_}
 use lib.ListN.{length}
 use native.Mathlib.Omega.{arith}

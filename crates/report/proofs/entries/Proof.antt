@@ -1,5 +1,4 @@
 -- Every index is below the numbers of the entries, which are within the list.
--- Assumes nothing.
 use Prim.Native.Nat.{_-_, _*_, _≤_}
 use mathlib.Core.Path.{_≡_}
 use lib.ListN.{length}

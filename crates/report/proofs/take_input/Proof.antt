@@ -1,11 +1,10 @@
 -- Each turn that goes on has taken more, and the limit ends it.
--- Assumes nothing.
 use Prim.Native.Nat.{suc, _-_}
 use mathlib.Core.Path.{_≡_}
 use lib.ListN.{length}
 use native.Mathlib.Omega.{arith}
 use Rattle.terms.specs.Limits.{limit}
-use Rattle.report.specs.Going.{Goes}
+use Rattle.report.specs.Inside.Going.{Goes}
 use Rattle.report.specs.declared.End.the-variants.{More}
 use borrow.Author.Needs.{needs}
 use Rattle.report.proofs.take_input.Statement.{statement}

@@ -1,5 +1,4 @@
 -- A piece that was fed was not empty.
--- Assumes nothing.
 use native.Mathlib.Omega.{arith}
 use Rattle.decoder.proofs.GrantedFeedTakes.{taken-is, granted}
 use borrow.Author.Needs.{needs}

@@ -1,7 +1,6 @@
 -- The second test is made where the first one fails.
--- Assumes nothing.
 use native.Mathlib.Omega.{arith}
-use Rattle.utf16.proofs.PlainDivides.{alone-low, alone-high}
+use Rattle.utf16.proofs.AloneDivides.{alone-low, alone-high}
 use Rattle.utf16.proofs.is_alone.Statement.{statement}
 use Rattle.utf16.proofs.is_alone.Tie as tie
 

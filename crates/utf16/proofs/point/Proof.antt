@@ -1,5 +1,4 @@
 -- `point` meets its contract: each arm is a law of `Pointing`, and a whole segment is a unit or a pair.
--- Assumes nothing.
 use mathlib.Core.Path.{_≡_}
 use native.Mathlib.Omega.{arith}
 use borrow.Author.Needs.{needs}

@@ -1,5 +1,4 @@
 -- `segment` meets its contract: each arm is a law of `Reading`.
--- Assumes nothing.
 use mathlib.Core.Logic.{inl, inr}
 use native.Mathlib.Omega.{arith}
 use borrow.Author.Needs.{needs}
@@ -18,7 +17,7 @@ shared-slice-read-x c = search needs
 returns-2 : tie.Need-returns-2
 returns-2 c = reads-whole (c .before .before .before .args .text .now) (omega arith) (inl (omega arith))
 
--- a unit is below 10000
+-- a unit is below 0x10000
 returns-3 : tie.Need-returns-3
 returns-3 c = reads-whole (c .before .before .before .before .args .text .now) (omega arith) (inr (omega arith, omega (arith, c .before .before .shared-slice-known .given 0)))
 

@@ -1,5 +1,4 @@
 -- Each arm is what its tests lead to.
--- Assumes nothing.
 use native.Mathlib.Omega.{arith}
 use borrow.Author.Tests.{le-leb, lt-leb}
 use Rattle.utf16_check.proofs.first_half.Statement.{statement}

@@ -1,5 +1,4 @@
 -- While no bit is set, the units passed are in pairs.
--- Assumes nothing.
 use mathlib.Core.Path.{_≡_, subst}
 use Prim.Native.Nat.{_+_, _-_, _≤_}
 use lib.ListN.{getD}
@@ -8,7 +7,7 @@ use native.Mathlib.Omega.{arith}
 use borrow.Author.Needs.{needs}
 use borrow.Author.Tests.{eqb-true}
 use Rattle.terms.specs.Told.{bit}
-use Rattle.utf16_check.specs.Paired.{isFirst, isSecond, Paired}
+use Rattle.utf16_check.specs.Inside.Paired.{isFirst, isSecond, Paired}
 use Rattle.utf16_check.proofs.PairedIsWhole.{even-same, or-none, paired-next}
 use Rattle.utf16_check.proofs.is_paired.Statement.{statement}
 use Rattle.utf16_check.proofs.is_paired.Tie as tie

@@ -1,5 +1,4 @@
 -- Each arm is what its tests lead to.
--- Assumes nothing.
 use borrow.Author.Tests.{le-leb, lt-leb}
 use Rattle.utf16_check.proofs.second_half.Statement.{statement}
 use Rattle.utf16_check.proofs.second_half.Tie as tie

@@ -1,5 +1,4 @@
 -- The units passed are whole segments.
--- Assumes nothing.
 use mathlib.Core.Path.{_≡_, ap, _∙_}
 use Prim.Native.Nat.{ℕ, _+_, _-_, _<_}
 use mathlib.Core.Bool.{false}
@@ -11,7 +10,7 @@ use borrow.Author.Needs.{needs}
 use borrow.Author.Tests.{not-false}
 use Rattle.terms.specs.Told.{bit}
 use Rattle.terms.proofs.WalkBySegments.{part-is}
-use Rattle.utf16_check.specs.Paired.{isSecond, Paired, WholeTo}
+use Rattle.utf16_check.specs.Inside.Paired.{isSecond, Paired, WholeTo}
 use Rattle.utf16_check.proofs.PairedIsWhole.{bit-none, whole-none, whole-on, paired-whole}
 use Rattle.utf16_check.proofs.whole_blocks.Statement.{statement}
 use Rattle.utf16_check.proofs.whole_blocks.Tie as tie

@@ -1,5 +1,4 @@
 -- Both tests are the range's.
--- Assumes nothing.
 use borrow.Author.Tests.{le-leb, lt-leb}
 use Rattle.utf8.proofs.between.Statement.{statement}
 use Rattle.utf8.proofs.between.Tie as tie

@@ -1,5 +1,4 @@
 -- `follow` meets its contract, by the laws of `Following`.
--- Assumes nothing.
 use Prim.Native.Nat.{_-_, suc}
 use mathlib.Core.Path.{sym, _∙_}
 use native.Mathlib.Omega.{arith}

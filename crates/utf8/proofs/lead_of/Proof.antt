@@ -1,5 +1,4 @@
 -- Each arm is the row that its bytes begin, or the gap that they lie in.
--- Assumes nothing.
 use mathlib.Core.Path.{refl}
 use mathlib.Core.List.{[], _∷_}
 use native.Mathlib.Omega.{arith}
@@ -9,7 +8,7 @@ use Rattle.utf8.proofs.RowsOfBytes.{at-row, at-none}
 use Rattle.utf8.proofs.lead_of.Statement.{statement}
 use Rattle.utf8.proofs.lead_of.Tie as tie
 
--- E0, ED, F0 and F4
+-- 0xE0, 0xED, 0xF0 and 0xF4
 returns : tie.Need-returns
 unfolding rows
 returns c = at-row 2 (row (0xE0 to 0xE0) (0xA0 to 0xBF ∷ next ∷ [])) refl (c .before .args .b) (omega arith)
@@ -47,7 +46,7 @@ returns-9 : tie.Need-returns-9
 unfolding rows
 returns-9 c = at-row 7 (row (0xF1 to 0xF3) (next ∷ next ∷ next ∷ [])) refl (c .before .before .before .before .before .before .before .args .b) (omega arith)
 
--- 80..C1 and F5..FF
+-- 0x80..0xC1 and 0xF5..0xFF
 returns-10 : tie.Need-returns-10
 unfolding rows
 returns-10 c = at-none 1 refl (c .before .before .before .args .b) (omega arith)

@@ -1,5 +1,4 @@
 -- `number_of` meets its contract: each return has the bits of as many bytes as its test says.
--- Assumes nothing.
 use mathlib.Core.Path.{_≡_}
 use Prim.Native.Nat.{ℕ}
 use lib.ListN.{take}

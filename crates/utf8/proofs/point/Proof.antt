@@ -1,5 +1,4 @@
 -- `point` meets its contract: each arm is a law of `Pointing`, and a whole segment has the number of its bytes.
--- Assumes nothing.
 use native.Mathlib.Omega.{arith}
 use borrow.Author.Needs.{needs}
 use Rattle.terms.proofs.PointTold.{Pointed, point-nothing, point-whole, point-damage, point-begun}

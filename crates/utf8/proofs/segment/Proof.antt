@@ -1,5 +1,4 @@
 -- `segment` meets its contract: what the first byte begins says all.
--- Assumes nothing.
 use mathlib.Core.Path.{sym, _∙_}
 use native.Mathlib.Omega.{arith}
 use borrow.Author.Needs.{needs}

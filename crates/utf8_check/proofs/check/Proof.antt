@@ -1,5 +1,4 @@
 -- `check` meets its contract: up to the end of the whole run there is no damage, and behind it there is, or no text.
--- Assumes nothing.
 use mathlib.Core.Path.{_∙_}
 use mathlib.Core.List.{[], _∷_}
 use lib.ListN.{drop-of-length-le}

@@ -1,5 +1,4 @@
--- `whole_run` meets its contract, by the law of `Fitting`.
--- Assumes nothing.
+-- `whole_run` meets its contract: what stands well is whole segments, but for the bytes that wait for more.
 use mathlib.Core.Path.{_≡_, ap, _∙_}
 use native.Mathlib.Omega.{arith}
 use borrow.Author.Needs.{needs}

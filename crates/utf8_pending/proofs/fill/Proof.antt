@@ -1,5 +1,4 @@
 -- `fill` meets its contract: what is pending is copied, and then the first bytes of the piece.
--- Assumes nothing.
 use Prim.Native.Nat.{ℕ, _≤_}
 use mathlib.Core.Path.{_≡_, sym}
 use mathlib.Core.List.{List, _++_}

@@ -1,5 +1,4 @@
 -- `hold` meets its contract: the first bytes are copied over 0.
--- Assumes nothing.
 use Prim.Native.Nat.{ℕ, _≤_}
 use mathlib.Core.Path.{_≡_, sym, ap, _∙_}
 use mathlib.Core.List.{List, [], _∷_}

@@ -1,5 +1,4 @@
 -- `is_tail` meets its contract: the reader says whether something of the pending bytes is settled.
--- Assumes nothing.
 use Prim.Native.Nat.{_-_, _≤_}
 use mathlib.Core.Path.{_≡_, sym, ap, _∙_}
 use lib.ListN.{length, take, drop, length-drop}
@@ -9,7 +8,7 @@ use borrow.Author.Needs.{needs}
 use Rattle.theory.specs.Tally.{total, size}
 use Rattle.terms.specs.Limits.{mostPending}
 use Rattle.utf8.specs.Pending.{zeros}
-use Rattle.utf8_pending.specs.Tail.{settled}
+use Rattle.utf8_pending.specs.Tail.{firstSettled}
 use Rattle.utf8_pending.proofs.SettledFirst.{told-size, pending-none, pending-some}
 use Rattle.utf8_pending.proofs.HeldInPlaces.{tail-long, tail-settled, tail-rest}
 use Rattle.utf8_pending.proofs.is_tail.Statement.{statement}
@@ -39,7 +38,7 @@ settled-size-requires c κs = search needs
 
 -- how many of the pending bytes are settled
 size-is : (c : tie.After-settled-size)
-    → let a = c .before .before .before .before .args in c .settled-size .result ≡ total size (settled (take (a .n) (a .t1)))
+    → let a = c .before .before .before .before .args in c .settled-size .result ≡ total size (firstSettled (take (a .n) (a .t1)))
 size-is c =
     let s = c .before in
     let a = s .before .before .before .args in

@@ -1,5 +1,4 @@
 -- `seam_of` meets its contract: the seam is filled over 0.
--- Assumes nothing.
 use Prim.Native.Nat.{ℕ, min, _≤_}
 use mathlib.Core.Path.{_≡_, sym, _∙_}
 use mathlib.Core.List.{List, _++_}

@@ -1,5 +1,4 @@
 -- Each arm puts the code point that stands first.
--- Assumes nothing.
 use mathlib.Core.Path.{_≡_, refl, ap}
 use mathlib.Core.List.{[], _∷_}
 use Prim.Native.Nat.{_≤_}
@@ -15,7 +14,7 @@ use borrow.Author.Needs.{needs}
 use Rattle.utf8_repair.proofs.mend.Statement.{statement}
 use Rattle.utf8_repair.proofs.mend.Tie as tie
 
--- a byte below 80
+-- a byte below 0x80
 one : (c : tie.Then1)
     → let text = c .before .before .before .before .args .text .now in
     getD text 0 0 ∷ 1 ∷ [] ≡ pointSays utf8 text
@@ -28,7 +27,7 @@ room-one c =
     let z = c .before .before .before .before in
     point-room utf8-faithful utf8 (z .args .text .now) (z .pre .0) 1 (getD (z .args .text .now) 0 0) (one c) (z .args .out .now) (z .pre .1)
 
--- a byte from 80 to C1
+-- a byte from 0x80 to 0xC1
 alone : (c : tie.Then2) → replacement ∷ 1 ∷ [] ≡ pointSays utf8 (c .before .before .before .before .before .args .text .now)
 alone c = let z = c .before .before .before .before .before in point-alone (z .args .text .now) (z .pre .0) (c .before .if1 .left) (omega (arith, c .if2 .taken))
 
@@ -43,15 +42,11 @@ shared-slice-read-a c = search needs
 slice-write-out : tie.Need-slice-write-out
 slice-write-out c = let a = c .before .before .before .before .args in omega (arith, room-one c, ap length (is-one (getD (a .text .now) 0 0) (c .if1 .taken)))
 
-calm-behind-requires : tie.Need-calm-behind-requires
-calm-behind-requires c κs = search needs
-
 same-length : tie.Need-same-length
 same-length c = search needs
 
 returns : tie.Need-returns
-returns c =
-    let t = c .before in
+returns t =
     let z = t .before .before .before .before in
     let text = z .args .text .now in
     let b = getD text 0 0 in
@@ -67,15 +62,11 @@ slice-write-out-3 c = let h = room-alone c in simp length-set (omega arith)
 slice-write-out-4 : tie.Need-slice-write-out-4
 slice-write-out-4 c = let h = room-alone c in simp length-set (omega arith)
 
-calm-behind-requires-2 : tie.Need-calm-behind-requires-2
-calm-behind-requires-2 c κs = search needs
-
 same-length-2 : tie.Need-same-length-2
 same-length-2 c = simp length-set
 
 returns-2 : tie.Need-returns-2
-returns-2 c =
-    let t = c .before in
+returns-2 t =
     let z = t .before .before .before .before .before in
     point-passes utf8-faithful utf8 (z .args .text .now) (z .pre .0) 1 replacement (alone t) (z .args .out .now) _ 3
     (puts-sets (sequence replacement) (0xEF ∷ 0xBF ∷ 0xBD ∷ []) (z .args .out .now) refl (room-alone t))
@@ -86,15 +77,12 @@ point-requires c κs = search needs
 put-bytes-requires : tie.Need-put-bytes-requires
 put-bytes-requires c κs = search needs
 
-calm-behind-requires-3 : tie.Need-calm-behind-requires-3
-calm-behind-requires-3 c κs = search needs
-
 same-length-3 : tie.Need-same-length-3
 same-length-3 c = search needs
 
 returns-3 : tie.Need-returns-3
 returns-3 c =
-    let q = c .before .before .before .before in
+    let q = c .before .before in
     let p = q .before .before in
     let z = p .before .before .before .before .before .before in
     point-put utf8-faithful utf8 (z .args .text .now) (z .pre .0) _ _ (p .point .ensures) (z .args .out .now) _ _ (z .pre .1) (q .put-bytes .ensures)
@@ -105,17 +93,14 @@ mend-spec =
     (tie.spec
     shared-slice-read-a
     slice-write-out
-    calm-behind-requires
     same-length
     returns
     slice-write-out-2
     slice-write-out-3
     slice-write-out-4
-    calm-behind-requires-2
     same-length-2
     returns-2
     point-requires
     put-bytes-requires
-    calm-behind-requires-3
     same-length-3
     returns-3)

@@ -1,16 +1,14 @@
 -- Refusal 2, then 3, then the form is written; where there is room for any text of this length, refusal 3 is not due.
--- Assumes nothing.
 use Prim.Native.Nat.{_≤_}
 use lib.ListN.{length}
 use native.Mathlib.Omega.{arith}
 use Rattle.terms.specs.Form.{repaired, converted}
-use Rattle.terms.proofs.AnswersWritten.{repair-over, repair-short, repair-done}
+use Rattle.terms.proofs.AnswersWritten.{repair-over, repair-short, repair-done, repair-roomed}
 use Rattle.terms.proofs.ConvertsBack.{repaired-converted}
 use Rattle.utf8.specs.Scalar.{utf8}
 use Rattle.utf8.proofs.FaithfulForm.{utf8-faithful}
 use Rattle.convert_point.specs.declared.Target.the-variants.{Bytes}
 use Rattle.convert_point.proofs.Enough.{enough}
-use Rattle.utf8_repair.proofs.UndamagedStays.{repair-roomed}
 use Rattle.utf8_repair.proofs.RunsCopied.{whole-same}
 use borrow.Author.Needs.{needs}
 use Rattle.utf8_repair.proofs.repair.Statement.{statement}

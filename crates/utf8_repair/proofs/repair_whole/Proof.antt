@@ -1,5 +1,4 @@
 -- Refusal 3, or the text is copied.
--- Assumes nothing.
 use mathlib.Core.Path.{refl}
 use lib.ListN.{length}
 use Rattle.copy.proofs.Copied.{copied-whole}

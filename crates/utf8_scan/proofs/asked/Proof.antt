@@ -1,5 +1,4 @@
 -- `asked` meets its contract, by the law of its bits.
--- Assumes nothing.
 use native.Mathlib.Omega.{arith}
 use Rattle.utf8_scan.proofs.LaneTests.{asked-is}
 use borrow.Author.Needs.{needs}

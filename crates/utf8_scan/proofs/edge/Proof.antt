@@ -1,5 +1,4 @@
 -- `edge` meets its contract, by the law of its bits.
--- Assumes nothing.
 use Rattle.utf8_scan.proofs.LaneTests.{edge-is}
 use borrow.Author.Needs.{needs}
 use Rattle.utf8_scan.proofs.edge.Statement.{statement}

@@ -1,5 +1,4 @@
 -- `lane_four` meets its contract, from what each part of the test says.
--- Assumes nothing.
 use native.Mathlib.Omega.{arith}
 use Rattle.utf8_scan.proofs.LaneTests.{stands-is, bounds-is, or-left, or-right, or-small, large-left, large-right}
 use lib.Bits.{bitOr}

@@ -1,5 +1,4 @@
--- `lane_three` meets its contract: below F0 three parts of the test are enough.
--- Assumes nothing.
+-- `lane_three` meets its contract: below 0xF0 three parts of the test are enough.
 use native.Mathlib.Omega.{arith}
 use Rattle.utf8_scan.proofs.LaneTests.{stands-is, bounds-is, bounds-none, or-left, or-right, or-small, large-left, large-right}
 use lib.Bits.{bitOr}

@@ -1,5 +1,4 @@
--- `lane_two` meets its contract: below E0 two parts of the test are enough.
--- Assumes nothing.
+-- `lane_two` meets its contract: below 0xE0 two parts of the test are enough.
 use native.Mathlib.Omega.{arith}
 use Rattle.utf8_scan.proofs.LaneTests.{stands-is, bounds-none, or-left, or-right}
 use borrow.Author.Needs.{needs}

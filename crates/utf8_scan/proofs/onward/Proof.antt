@@ -1,5 +1,4 @@
 -- `onward` meets its contract: those passed stand well, and the others are tested one by one.
--- Assumes nothing.
 use Prim.Native.Nat.{_-_}
 use mathlib.Core.Path.{sym, _∙_}
 use lib.ListN.{length}

@@ -1,5 +1,4 @@
--- `overlong` meets its contract: C0 and C1 alone have these bits.
--- Assumes nothing.
+-- `overlong` meets its contract: 0xC0 and 0xC1 alone have these bits.
 use Rattle.utf8_scan.proofs.LaneTests.{overlong-is}
 use borrow.Author.Needs.{needs}
 use Rattle.utf8_scan.proofs.overlong.Statement.{statement}

@@ -1,8 +1,7 @@
 -- `right` meets its contract: the largest byte says which test is enough.
--- Assumes nothing.
 use mathlib.Core.Path.{sym}
 use mathlib.Core.Bool.{true≢false}
-use Rattle.utf8_scan.proofs.StandMore.{below-up, stand-plain}
+use Rattle.utf8_scan.proofs.StandMore.{below-up, stand-ascii}
 use borrow.Author.Needs.{needs}
 use Rattle.utf8_scan.proofs.right.Statement.{statement}
 use Rattle.utf8_scan.proofs.right.Tie as tie
@@ -13,7 +12,7 @@ top-requires c κs = search needs
 returns : tie.Need-returns
 returns c = λ e.
     let t = c .before .before .before .args .t .now in
-    stand-plain t 128 (below-up t 131 (c .before .top .result) 0x80 (c .before .top .ensures) (c .if1 .taken))
+    stand-ascii t 128 (below-up t 131 (c .before .top .result) 0x80 (c .before .top .ensures) (c .if1 .taken))
 
 right-two-requires : tie.Need-right-two-requires
 right-two-requires c κs =

@@ -1,5 +1,4 @@
 -- `right_first` meets its contract, by the three tests.
--- Assumes nothing.
 use mathlib.Core.Path.{sym, _∙_}
 use mathlib.Core.Bool.{true≢false}
 use borrow.Author.Needs.{needs}

@@ -1,5 +1,4 @@
 -- `right_to` meets its contract: each byte so far stands well that is before the least place found.
--- Assumes nothing.
 use borrow.Author.Needs.{needs}
 use Prim.Native.Nat.{_-_, _≤_}
 use native.Mathlib.Omega.{arith}

@@ -1,9 +1,8 @@
 -- `shrinking` meets its contract: the last block reaches back to what stood well.
--- Assumes nothing.
 use mathlib.Core.Path.{subst}
 use native.Mathlib.Omega.{arith}
 use borrow.Author.Needs.{needs}
-use Rattle.utf8_scan.specs.Blocks.{Stand}
+use Rattle.utf8_scan.specs.Inside.Blocks.{Stand}
 use Rattle.utf8_scan.proofs.StandMore.{good-last}
 use Rattle.utf8_scan.proofs.shrinking.Statement.{statement}
 use Rattle.utf8_scan.proofs.shrinking.Tie as tie

@@ -1,5 +1,4 @@
 -- `standing` meets its contract: it goes on from the bound.
--- Assumes nothing.
 use borrow.Author.Needs.{needs}
 use Rattle.utf8_scan.proofs.standing.Statement.{statement}
 use Rattle.utf8_scan.proofs.standing.Tie as tie

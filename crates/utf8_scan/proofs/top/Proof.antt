@@ -1,10 +1,9 @@
 -- `top` meets its contract: so far no byte is larger.
--- Assumes nothing.
 use Prim.Native.Nat.{ℕ, suc, _<_, _≤_, _-_}
 use native.Mathlib.Omega.{arith}
 use borrow.Author.Count.{below-more}
 use lib.ListN.{getD}
-use Rattle.utf8_scan.specs.Blocks.{Below}
+use Rattle.utf8_scan.specs.Inside.Blocks.{Below}
 use borrow.Author.Needs.{needs}
 use Rattle.utf8_scan.proofs.top.Statement.{statement}
 use Rattle.utf8_scan.proofs.top.Tie as tie

@@ -1,11 +1,10 @@
 -- `wide_blocks` meets its contract: each block goes on where the text stood well so far.
--- Assumes nothing.
 use borrow.Author.Needs.{needs}
 use Prim.Native.Nat.{_-_, _≤_}
 use native.Mathlib.Omega.{arith}
 use borrow.Author.Tests.{not-false}
 use lib.ListN.{length, length-take, length-drop}
-use Rattle.utf8_scan.specs.Blocks.{Good}
+use Rattle.utf8_scan.specs.Inside.Blocks.{Good}
 use Rattle.utf8_scan.proofs.StandMore.{good-part}
 use Rattle.utf8_scan.proofs.wide_blocks.Statement.{statement}
 use Rattle.utf8_scan.proofs.wide_blocks.Tie as tie

@@ -1,7 +1,6 @@
 -- The number of what the check told.
--- Assumes nothing.
 use mathlib.Core.Path.{sym, ap, _∙_}
-use Rattle.terms.specs.Told.{checked}
+use Rattle.terms.specs.Told.{toldChecked}
 use Rattle.viewer.specs.Replies.{checkNumber}
 use Rattle.viewer.proofs.RepliesTold.{small}
 use borrow.Author.Needs.{needs}
@@ -20,15 +19,15 @@ enum-known-r c = search needs
 refused-requires : tie.Need-refused-requires
 refused-requires c κs =
     let k = c .before .before .before in
-    small (k .before .before .args .text .now) (c .before .r .given .0 .0) (ap checked (sym (c .before .r .given .1)) ∙ k .check .ensures)
+    small (k .before .before .args .text .now) (c .before .r .given .0 .0) (ap toldChecked (sym (c .before .r .given .1)) ∙ k .check .ensures)
 
 returns : tie.Need-returns
-returns c = ap checkNumber (ap checked (sym (c .enum-told .given .1)) ∙ c .before .before .check .ensures)
+returns c = ap checkNumber (ap toldChecked (sym (c .enum-told .given .1)) ∙ c .before .before .check .ensures)
 
 returns-2 : tie.Need-returns-2
 returns-2 c =
     let t = c .before .before in
-    c .refused .ensures ∙ ap checkNumber (ap checked (sym (t .r .given .1)) ∙ t .before .before .check .ensures)
+    c .refused .ensures ∙ ap checkNumber (ap toldChecked (sym (t .r .given .1)) ∙ t .before .before .check .ensures)
 
 pub moxandril-check-spec : {M : Type 1} → statement M
 moxandril-check-spec =

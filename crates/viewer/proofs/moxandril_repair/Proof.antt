@@ -1,7 +1,6 @@
 -- The number of what repair told, and its output.
--- Assumes nothing.
 use mathlib.Core.Path.{sym, ap, _∙_}
-use Rattle.terms.specs.Told.{written}
+use Rattle.terms.specs.Told.{toldWritten}
 use Rattle.viewer.specs.Replies.{repairNumber}
 use borrow.Author.Needs.{needs}
 use Rattle.viewer.proofs.moxandril_repair.Statement.{statement}
@@ -29,7 +28,7 @@ returns : tie.Need-returns
 returns c =
     let n = c .before .before in
     let w = n .before .before .before .before in
-    record { reply = c .wide .ensures ∙ ap repairNumber (ap written (sym (n .n .given .1)) ∙ w .repair .ensures .answer); output = w .repair .ensures .output }
+    record { reply = c .wide .ensures ∙ ap repairNumber (ap toldWritten (sym (n .n .given .1)) ∙ w .repair .ensures .answer); output = w .repair .ensures .output }
 
 same-length-2 : tie.Need-same-length-2
 same-length-2 c = search needs
@@ -38,7 +37,7 @@ returns-2 : tie.Need-returns-2
 returns-2 c =
     let n = c .before .before in
     let w = n .before .before .before .before in
-    record { reply = c .unwritten .ensures ∙ ap repairNumber (ap written (sym (n .r .given .1)) ∙ w .repair .ensures .answer); output = w .repair .ensures .output }
+    record { reply = c .unwritten .ensures ∙ ap repairNumber (ap toldWritten (sym (n .r .given .1)) ∙ w .repair .ensures .answer); output = w .repair .ensures .output }
 
 pub moxandril-repair-spec : {M : Type 1} → statement M
 moxandril-repair-spec =

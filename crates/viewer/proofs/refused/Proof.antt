@@ -1,5 +1,4 @@
 -- Number 1 tells the damage, and any other is the largest number.
--- Assumes nothing.
 use mathlib.Core.Path.{sym, _∙_}
 use native.Mathlib.Omega.{arith}
 use Rattle.viewer.proofs.RepliesTold.{reply-damaged, reply-other}
@@ -10,30 +9,30 @@ use Rattle.viewer.proofs.refused.Tie as tie
 number-requires : tie.Need-number-requires
 number-requires c κs = search needs
 
-first-requires : tie.Need-first-requires
-first-requires c κs = search needs
+first-value-requires : tie.Need-first-value-requires
+first-value-requires c κs = search needs
 
 wide-requires : tie.Need-wide-requires
 wide-requires c κs = search needs
 
 mul-result : tie.Need-mul-result
-mul-result c = omega (arith, c .wide .ensures, c .before .first .ensures, c .before .before .before .before .pre .0)
+mul-result c = omega (arith, c .wide .ensures, c .before .first-value .ensures, c .before .before .before .before .pre .0)
 
-second-requires : tie.Need-second-requires
-second-requires c κs = search needs
+second-value-requires : tie.Need-second-value-requires
+second-value-requires c κs = search needs
 
 wide-requires-2 : tie.Need-wide-requires-2
 wide-requires-2 c κs = search needs
 
 add-result : tie.Need-add-result
-add-result c = omega (arith, c .wide2 .ensures, c .before .second .ensures, c .before .before .wide .ensures, c .before .before .before .first .ensures, c .before .before .before .before .before .before .pre .0, c .before .before .before .before .before .before .pre .1)
+add-result c = omega (arith, c .wide2 .ensures, c .before .second-value .ensures, c .before .before .wide .ensures, c .before .before .before .first-value .ensures, c .before .before .before .before .before .before .pre .0, c .before .before .before .before .before .before .pre .1)
 
 returns : tie.Need-returns
 returns c =
     let n = c .before .before .before .before .before in
     let r = n .before .args .r in
     let w = c .before .before in
-    rw (c .wide2 .ensures, c .before .second .ensures, w .wide .ensures, w .before .first .ensures)
+    rw (c .wide2 .ensures, c .before .second-value .ensures, w .wide .ensures, w .before .first-value .ensures)
     (reply-damaged r (sym (n .number .ensures) ∙ w .before .before .if1 .taken))
 
 returns-2 : tie.Need-returns-2
@@ -44,10 +43,10 @@ refused-spec =
     tie.close
     (tie.spec
     number-requires
-    first-requires
+    first-value-requires
     wide-requires
     mul-result
-    second-requires
+    second-value-requires
     wide-requires-2
     add-result
     returns

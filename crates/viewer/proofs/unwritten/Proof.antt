@@ -1,5 +1,4 @@
 -- Number 3 is one less than the largest number, and any other is the largest.
--- Assumes nothing.
 use mathlib.Core.Path.{sym, _∙_}
 use Rattle.viewer.proofs.RepliesTold.{reply-room, reply-over}
 use borrow.Author.Needs.{needs}

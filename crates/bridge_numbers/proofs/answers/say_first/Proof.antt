@@ -1,5 +1,4 @@
 -- By what stands first.
--- Assumes nothing.
 use borrow.Author.Needs.{needs}
 use Rattle.bridge_numbers.proofs.answers.say_first.Statement.{statement}
 use Rattle.bridge_numbers.proofs.answers.say_first.Tie as tie

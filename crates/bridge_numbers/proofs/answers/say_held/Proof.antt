@@ -1,5 +1,4 @@
 -- The three bytes.
--- Assumes nothing.
 use borrow.Author.Needs.{needs}
 use Rattle.bridge_numbers.proofs.answers.say_held.Statement.{statement}
 use Rattle.bridge_numbers.proofs.answers.say_held.Tie as tie

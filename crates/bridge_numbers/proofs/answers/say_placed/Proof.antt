@@ -1,5 +1,4 @@
 -- By the answer.
--- Assumes nothing.
 use borrow.Author.Needs.{needs}
 use Rattle.bridge_numbers.proofs.answers.say_placed.Statement.{statement}
 use Rattle.bridge_numbers.proofs.answers.say_placed.Tie as tie

@@ -1,5 +1,4 @@
 -- By the refusal.
--- Assumes nothing.
 use borrow.Author.Needs.{needs}
 use Rattle.bridge_numbers.proofs.answers.say_refusal.Statement.{statement}
 use Rattle.bridge_numbers.proofs.answers.say_refusal.Tie as tie

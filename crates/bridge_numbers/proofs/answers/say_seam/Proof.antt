@@ -1,5 +1,4 @@
 -- The size and the four bytes.
--- Assumes nothing.
 use borrow.Author.Needs.{needs}
 use Rattle.bridge_numbers.proofs.answers.say_seam.Statement.{statement}
 use Rattle.bridge_numbers.proofs.answers.say_seam.Tie as tie

@@ -1,5 +1,4 @@
 -- By the lengths and the three tests.
--- Assumes nothing.
 use Rattle.bridge_numbers.proofs.HoldsState.{state-short, state-few, state-first, state-second, state-third}
 use borrow.Author.Needs.{needs}
 use Rattle.bridge_numbers.proofs.states.is_state.Statement.{statement}

@@ -1,5 +1,4 @@
 -- Where there are places for them, the numbers are copied over the slice's first ones.
--- Assumes nothing.
 use mathlib.Core.Path.{sym, _∙_}
 use Rattle.bridge_numbers.specs.States.{builderNumbers}
 use Rattle.bridge_numbers.proofs.HoldsState.{kept-short, kept-long}

@@ -1,5 +1,4 @@
 -- Behind the end there is the default.
--- Assumes nothing.
 use mathlib.Core.Path.{sym}
 use lib.ListN.{List·getD-eq-default}
 use borrow.Author.Needs.{needs}

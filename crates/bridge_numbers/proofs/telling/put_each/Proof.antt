@@ -1,5 +1,4 @@
 -- The numbers are stored one by one, so many as there are to be.
--- Assumes nothing.
 use mathlib.Core.Path.{_≡_}
 use lib.ListN.{length, length-set}
 use native.Mathlib.Omega.{arith}

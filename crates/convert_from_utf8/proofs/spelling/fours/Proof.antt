@@ -1,11 +1,10 @@
 -- Each sequence of four bytes is a pair.
--- Assumes nothing.
 use Prim.Native.Nat.{_+_, _-_, _≤_}
 use mathlib.Core.Path.{ap}
 use lib.ListN.{length, getD, length-set}
 use native.Mathlib.Omega.{arith}
 use Rattle.terms.proofs.WalkWrites.{filled-start}
-use Rattle.convert_from_utf8.proofs.SpelledByKind.{left, four-is, passed-four}
+use Rattle.convert_from_utf8.proofs.SpelledByKind.{left, wants-three, passed-four}
 use Rattle.convert_from_utf8.proofs.StridesWalk.{Walked, strides, stored-two, room-for, cut-short}
 use borrow.Author.Needs.{needs}
 use Rattle.convert_from_utf8.proofs.spelling.fours.Statement.{statement}
@@ -125,7 +124,7 @@ returns-2 c =
     let z = l .before .before .before in
     let text = z .args .text .now in
     strides text (z .args .out .now) (l .loop .out) (l .loop .at) (l .loop .put) (l .loop .inv)
-    (λ e. cut-short text (z .pre .0 .0) (rw (four-is (getD text 0 0) 0 0 0 (z .pre .0 .1) .0) (omega (arith, e, c .loop-test .left))))
+    (λ e. cut-short text (z .pre .0 .0) (rw (wants-three (getD text 0 0) (z .pre .0 .1)) (omega (arith, e, c .loop-test .left))))
 
 pub fours-spec : {M : Type 1} → statement M
 fours-spec =

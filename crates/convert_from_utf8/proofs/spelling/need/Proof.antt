@@ -1,11 +1,10 @@
 -- What is counted, and what the rest of the text spells, is the need.
--- Assumes nothing.
 use Prim.Native.Nat.{suc, _+_, _-_, _≤_}
 use native.Mathlib.Numerals.{add-one}
 use lib.ListN.{length, getD}
 use native.Mathlib.Omega.{arith}
 use Rattle.terms.proofs.WalkWrites.{Summed, summed-start, summed-on, summed-end}
-use Rattle.convert_from_utf8.specs.Spell.{wants}
+use Rattle.convert_from_utf8.specs.Inside.Spell.{wants}
 use Rattle.convert_from_utf8.proofs.SpelledByKind.{left, left-end, left-short, passed-next, units-few, units-long}
 use borrow.Author.Needs.{needs}
 use Rattle.convert_from_utf8.proofs.spelling.need.Statement.{statement}
@@ -45,7 +44,7 @@ add-total c =
     let w = c .before .before in
     let l = w .before .before .before in
     let z = l .before .before in
-    omega (arith, l .loop .inv, c .units-of .ensures, units-few (getD (z .args .text .now) (l .loop .at) 0) 0 0 0, w .wanted .ensures, c .before .if1 .left, z .good)
+    omega (arith, l .loop .inv, c .units-of .ensures, units-few (getD (z .args .text .now) (l .loop .at) 0), w .wanted .ensures, c .before .if1 .left, z .good)
 
 add-at : tie.Need-add-at Inv-loop μ-loop
 add-at c =
@@ -73,7 +72,7 @@ loop-again c =
     let p = passed-next text at (i .loop-test .taken) (omega (arith, w .wanted .ensures, c .before .if1 .left)) in
     let u = units-long a (getD text (at + 1) 0) (getD text (at + 2) 0) (getD text (at + 3) 0) in (
       rw (w .wanted .ensures, add-one (wants a), c .units-of .ensures, ← u) (summed-on (left text) (length text) at (l .loop .total) (suc (wants a)) _ (l .loop .inv .0) p),
-      omega (arith, l .loop .inv .1, c .units-of .ensures, units-few a 0 0 0, w .wanted .ensures),
+      omega (arith, l .loop .inv .1, c .units-of .ensures, units-few a, w .wanted .ensures),
     )
 
 returns-2 : tie.Need-returns-2 Inv-loop μ-loop

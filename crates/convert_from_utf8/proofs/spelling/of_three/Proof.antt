@@ -1,5 +1,4 @@
 -- The bits of three bytes.
--- Assumes nothing.
 use borrow.Author.Needs.{needs}
 use Rattle.convert_from_utf8.proofs.spelling.of_three.Statement.{statement}
 use Rattle.convert_from_utf8.proofs.spelling.of_three.Tie as tie

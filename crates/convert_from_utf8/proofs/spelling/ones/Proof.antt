@@ -1,5 +1,4 @@
--- Each byte below 80 is its own unit.
--- Assumes nothing.
+-- Each byte below 0x80 is its own unit.
 use Prim.Native.Nat.{_-_, _≤_}
 use mathlib.Core.Path.{ap}
 use mathlib.Core.List.{[], _∷_}

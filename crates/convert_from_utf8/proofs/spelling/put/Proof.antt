@@ -1,5 +1,4 @@
 -- What is written, and what the rest of the text spells, is the whole.
--- Assumes nothing.
 use Prim.Native.Nat.{_+_, _-_}
 use lib.ListN.{length, length-drop}
 use native.Mathlib.Omega.{arith}
@@ -12,10 +11,10 @@ use Rattle.convert_from_utf8.proofs.spelling.put.Statement.{statement}
 use Rattle.convert_from_utf8.proofs.spelling.put.Tie as tie
 
 abbrev Inv-loop : tie.InvT-loop
-Inv-loop text out₀ at₀ done₀ plain₀ out at done plain = Walked text out₀ out at done
+Inv-loop text out₀ at₀ done₀ ascii₀ out at done ascii = Walked text out₀ out at done
 
 abbrev μ-loop : tie.MeasureT-loop
-μ-loop text out₀ at₀ done₀ plain₀ out at done plain = length text - at
+μ-loop text out₀ at₀ done₀ ascii₀ out at done ascii = length text - at
 
 loop-holds : tie.Need-loop-holds Inv-loop μ-loop
 loop-holds c = let a = c .before .before .args in filled-start (left (a .text .now)) (length (a .text .now)) (a .out .now)

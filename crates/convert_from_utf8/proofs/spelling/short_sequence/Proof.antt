@@ -1,10 +1,9 @@
--- A byte below 80 is its own unit, and one below E0 has one byte behind it.
--- Assumes nothing.
+-- A byte below 0x80 is its own unit, and one below 0xE0 has one byte behind it.
 use mathlib.Core.Path.{sym, ap, _∙_}
 use mathlib.Core.List.{[], _∷_}
 use Prim.Native.Nat.{ℕ, suc}
 use native.Mathlib.Omega.{arith}
-use Rattle.convert_from_utf8.proofs.SpelledByKind.{one-is, two-is}
+use Rattle.convert_from_utf8.proofs.SpelledByKind.{wants-none, wants-one, one-is, two-is}
 use borrow.Author.Needs.{needs}
 use Rattle.convert_from_utf8.proofs.spelling.short_sequence.Statement.{statement}
 use Rattle.convert_from_utf8.proofs.spelling.short_sequence.Tie as tie
@@ -22,7 +21,7 @@ returns-2 c =
     record {
       few = omega arith;
       taken = λ l h. omega arith;
-      whole = λ z. ap suc (sym (two-is (a .a) (a .b) 0 0 (i .if2 .taken) (i .before .if1 .left) .0));
+      whole = λ z. ap suc (sym (wants-one (a .a) (i .if2 .taken) (i .before .if1 .left)));
       same = λ z d e. two-is (a .a) (a .b) d e (i .if2 .taken) (i .before .if1 .left) .1 ∙ ap (λ (u : ℕ). u ∷ []) (sym (c .of-two .ensures));
     }
 
@@ -39,7 +38,7 @@ returns-4 c =
     record {
       few = omega arith;
       taken = λ l h. omega arith;
-      whole = λ z. ap suc (sym (one-is (a .a) (a .b) 0 0 (e .if2 .left) .0));
+      whole = λ z. ap suc (sym (wants-none (a .a) (e .if2 .left)));
       same = λ z d f. one-is (a .a) (a .b) d f (e .if2 .left) .1 ∙ ap (λ (u : ℕ). u ∷ []) (sym (c .wide .ensures));
     }
 

@@ -1,10 +1,9 @@
--- A plain run is its own units; any other stride is one of sequences alike.
--- Assumes nothing.
+-- A ascii run is its own units; any other stride is one of sequences alike.
 use mathlib.Core.Path.{_≡_, sym}
 use lib.ListN.{length, take}
 use lib.Seq.{length-take-le}
 use native.Mathlib.Omega.{arith}
-use Rattle.convert_from_utf8.proofs.StridesWalk.{plain-room, plain-strides}
+use Rattle.convert_from_utf8.proofs.StridesWalk.{ascii-room, ascii-strides}
 use borrow.Author.Needs.{needs}
 use Rattle.convert_from_utf8.proofs.spelling.stride.Statement.{statement}
 use Rattle.convert_from_utf8.proofs.spelling.stride.Tie as tie
@@ -18,8 +17,8 @@ same-length c = search needs
 returns : tie.Need-returns
 returns c = search needs
 
-plain-run-requires : tie.Need-plain-run-requires
-plain-run-requires c κs = search needs
+ascii-run-requires : tie.Need-ascii-run-requires
+ascii-run-requires c κs = search needs
 
 alike-requires-2 : tie.Need-alike-requires-2
 alike-requires-2 c κs = search needs
@@ -33,13 +32,13 @@ returns-2 c = search needs
 slice-aggregate-widen : tie.Need-slice-aggregate-widen
 slice-aggregate-widen c =
     let n = c .before .before in
-    sym (length-take-le (n .plain-run .result) (n .before .before .before .before .args .text .now) (n .plain-run .ensures .0))
+    sym (length-take-le (n .ascii-run .result) (n .before .before .before .before .args .text .now) (n .ascii-run .ensures .0))
 
 widen-requires : tie.Need-widen-requires
 widen-requires c κs =
     let n = c .before .before .before in
     let z = n .before .before .before .before in
-    omega (arith, plain-room (z .args .text .now) (n .plain-run .result) (n .plain-run .ensures .0) (n .plain-run .ensures .1), z .pre .1)
+    omega (arith, ascii-room (z .args .text .now) (n .ascii-run .result) (n .ascii-run .ensures .0) (n .ascii-run .ensures .1), z .pre .1)
 
 same-length-3 : tie.Need-same-length-3
 same-length-3 c = search needs
@@ -51,8 +50,8 @@ returns-3 c =
     let n = e .before in
     let z = n .before .before .before .before in
     let text = z .args .text .now in
-    let k : length (take (n .plain-run .result) text) ≡ n .plain-run .result = length-take-le (n .plain-run .result) text (n .plain-run .ensures .0) in
-    plain-strides text (z .args .out .now) (w .widen .last .1 .0) (n .plain-run .result) (n .plain-run .ensures .0) (e .if2 .left) (n .plain-run .ensures .1)
+    let k : length (take (n .ascii-run .result) text) ≡ n .ascii-run .result = length-take-le (n .ascii-run .result) text (n .ascii-run .ensures .0) in
+    ascii-strides text (z .args .out .now) (w .widen .last .1 .0) (n .ascii-run .result) (n .ascii-run .ensures .0) (e .if2 .left) (n .ascii-run .ensures .1)
     (rw k at (w .widen .ensures))
 
 pub stride-spec : {M : Type 1} → statement M
@@ -62,7 +61,7 @@ stride-spec =
     alike-requires
     same-length
     returns
-    plain-run-requires
+    ascii-run-requires
     alike-requires-2
     same-length-2
     returns-2

@@ -1,12 +1,11 @@
 -- Each sequence that is taken is one unit, and the first one is taken.
--- Assumes nothing.
 use Prim.Native.Nat.{_-_}
 use mathlib.Core.Path.{ap}
 use mathlib.Core.List.{[], _∷_}
 use lib.ListN.{length, getD}
 use native.Mathlib.Omega.{arith}
 use Rattle.terms.proofs.WalkWrites.{Passed, filled-start}
-use Rattle.convert_from_utf8.proofs.SpelledByKind.{left, two-is, passed-short}
+use Rattle.convert_from_utf8.proofs.SpelledByKind.{left, wants-one, passed-short}
 use Rattle.convert_from_utf8.proofs.StridesWalk.{Walked, strides, stored-one, room-for, cut-short}
 use borrow.Author.Needs.{needs}
 use Rattle.convert_from_utf8.proofs.spelling.twos.Statement.{statement}
@@ -107,7 +106,7 @@ returns-2 c =
     strides text (z .args .out .now) (l .loop .out) (l .loop .at) (l .loop .put) (l .loop .inv)
     (λ e.
     cut-short text (z .pre .0 .0)
-    (rw (two-is (getD text 0 0) 0 0 0 (z .pre .0 .1) (z .pre .0 .2) .0) (omega (arith, e, c .loop-test .left))))
+    (rw (wants-one (getD text 0 0) (z .pre .0 .1) (z .pre .0 .2)) (omega (arith, e, c .loop-test .left))))
 
 pub twos-spec : {M : Type 1} → statement M
 twos-spec =

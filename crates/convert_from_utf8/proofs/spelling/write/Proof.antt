@@ -1,7 +1,6 @@
 -- Where the output has a place for each byte there is room without counting; else the need is counted first.
--- Assumes nothing.
 use native.Mathlib.Omega.{arith}
-use Rattle.convert_from_utf8.specs.Spell.{spelled}
+use Rattle.convert_from_utf8.specs.Inside.Spell.{spelled}
 use Rattle.convert_from_utf8.proofs.SpelledByKind.{spelled-few}
 use Rattle.terms.proofs.AnswersWritten.{roomed-short, roomed-done}
 use borrow.Author.Needs.{needs}

@@ -1,5 +1,4 @@
--- The bits of the units passed are below 80 exactly if the units are.
--- Assumes nothing.
+-- The bits of the units passed are below 0x80 exactly if the units are.
 use mathlib.Core.Path.{_≡_, refl, subst}
 use Prim.Native.Nat.{ℕ, _-_, _≤_}
 use lib.ListN.{length, take}

@@ -1,5 +1,4 @@
 -- Each test that fails is one of the numbers' tests.
--- Assumes nothing.
 use native.Mathlib.Omega.{arith}
 use Rattle.decoder.proofs.TestsAsFacts.{unbalanced, balanced-room}
 use borrow.Author.Needs.{needs}

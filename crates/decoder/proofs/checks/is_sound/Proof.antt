@@ -1,5 +1,4 @@
 -- `checks::is_sound` meets its contract: the pending bytes, and then the numbers.
--- Assumes nothing.
 use mathlib.Core.Path.{sym, _∙_}
 use borrow.Author.Tests.{not-true, not-false}
 use Rattle.decoder.proofs.TestsAsFacts.{sound-not, sound-rest}

@@ -1,5 +1,4 @@
 -- `walk::span_of` meets its contract: so much is counted, and the rest adds what is left.
--- Assumes nothing.
 use Prim.Native.Nat.{_+_, _-_}
 use mathlib.Core.Path.{sym, _∙_}
 use lib.ListN.{length, drop}
@@ -7,7 +6,7 @@ use native.Mathlib.Omega.{arith}
 use borrow.Author.Needs.{needs}
 use Rattle.terms.proofs.WalkBySegments.{part-is}
 use Rattle.decoder.proofs.SettledByReader.{Told, told}
-use Rattle.decoder.proofs.SettledWalk.{Counted, counted-start, counted-next, counted-end}
+use Rattle.decoder.proofs.SettledWalk.{Counted, counted-start, counted-small, counted-next, counted-end}
 use Rattle.decoder.proofs.walk.span_of.Statement.{statement}
 use Rattle.decoder.proofs.walk.span_of.Tie as tie
 
@@ -53,27 +52,27 @@ returns c =
 places-requires : tie.Need-places-requires Inv-loop μ-loop
 places-requires c κs = search needs
 
-wrapping-add-usize-requires : tie.Need-wrapping-add-usize-requires Inv-loop μ-loop
-wrapping-add-usize-requires c κs = search needs
-
 -- behind the segment
-counted : (c : tie.After-wrapping-add-usize Inv-loop μ-loop)
-    → let s = c .before .before .before in
+counted : (c : tie.After-places Inv-loop μ-loop)
+    → let s = c .before .before in
     let l = s .before .before .before in
-    Counted (l .before .before .args .text .now) (l .loop .at + s .settled-size .result) (c .wrapping-add-usize .result)
+    Counted (l .before .before .args .text .now) (l .loop .at + s .settled-size .result) (l .loop .n + c .places .result)
 counted c =
-    let p = c .before in
-    let s = p .before .before in
+    let s = c .before .before in
     let l = s .before .before .before in
-    rw (s .settled-size .ensures)
-    (counted-next (l .before .before .args .text .now) (l .loop .at) (l .loop .n) (l .loop .inv) (seen (s .before))
-    (c .wrapping-add-usize .result) (rw (p .places .ensures) at (c .wrapping-add-usize .ensures)))
+    rw (s .settled-size .ensures, c .places .ensures)
+    (counted-next (l .before .before .args .text .now) (l .loop .at) (l .loop .n) (l .loop .inv) (seen (s .before)))
+
+add-n : tie.Need-add-n Inv-loop μ-loop
+add-n c =
+    let z = c .before .before .before .before .before .before .before in
+    omega (arith, z .pre, counted-small (z .args .text .now) _ _ (counted c))
 
 add-at : tie.Need-add-at Inv-loop μ-loop
 add-at c = let k = counted c in omega (arith, k .inside)
 
 loop-less : tie.Need-loop-less Inv-loop μ-loop
-loop-less c = let k = counted c in omega (arith, k .inside, c .before .before .if1 .left)
+loop-less c = let k = counted c in omega (arith, k .inside, c .before .if1 .left)
 
 loop-again : tie.Need-loop-again Inv-loop μ-loop
 loop-again c = counted c
@@ -92,7 +91,7 @@ span-of-spec =
     settled-size-requires
     returns
     places-requires
-    wrapping-add-usize-requires
+    add-n
     add-at
     loop-less
     loop-again)

@@ -1,28 +1,28 @@
 -- `walk::walk` meets its contract: so much has acted, and what is settled of the rest is still to act.
--- Assumes nothing.
 use Prim.Native.Nat.{_+_, _-_}
 use mathlib.Core.Path.{_≡_, refl, sym, _∙_}
 use lib.ListN.{length, drop}
 use native.Mathlib.Omega.{arith}
 use borrow.Author.Needs.{needs}
 use Rattle.terms.proofs.WalkBySegments.{part-is}
-use Rattle.decoder.specs.Acting.{work}
-use Rattle.decoder.proofs.SettledByReader.{Told, told}
-use Rattle.decoder.proofs.SettledWalk.{Acted, acted-start, acted-next, acted-end}
+use Rattle.decoder.specs.Inside.Acting.{work}
+use Rattle.decoder.proofs.SettledByReader.{Told, told, stands}
+use Rattle.decoder.proofs.SettledWalk.{Walked, walked-start, walked-ready, walked-next, walked-end}
 use Rattle.decoder.proofs.walk.walk.Statement.{statement}
 use Rattle.decoder.proofs.walk.walk.Tie as tie
 
 abbrev Inv-loop : tie.InvT-loop
 Inv-loop text room out₀ list₀ at₀ tally₀ out list at tally =
-    (length out ≡ length out₀) × (length list ≡ length list₀) × Acted room text (work tally₀ out₀ list₀) (work tally out list) at
+    (length out ≡ length out₀) × (length list ≡ length list₀) × Walked room text (work tally₀ out₀ list₀) (work tally out list) at
 
 abbrev μ-loop : tie.MeasureT-loop
 μ-loop text room out₀ list₀ at₀ tally₀ out list at tally = length text - at
 
 loop-holds : tie.Need-loop-holds Inv-loop μ-loop
 loop-holds c =
-    let a = c .before .before .before .args in
-    (refl, refl, acted-start (a .room) (a .text .now) (work (a .tally) (a .out .now) (a .list .now)))
+    let z = c .before .before .before in
+    let a = z .args in
+    (refl, refl, walked-start (a .room) (a .text .now) (work (a .tally) (a .out .now) (a .list .now)) (z .pre))
 
 sub-rest : tie.Need-sub-rest Inv-loop μ-loop
 sub-rest c = search needs
@@ -57,23 +57,31 @@ returns : tie.Need-returns Inv-loop μ-loop
 returns c =
     let s = c .before .before in
     let l = s .before .before in
-    acted-end _ _ _ _ _ (l .loop .inv .2) (seen s) (sym (c .before .settled-size .ensures) ∙ c .if1 .taken)
+    walked-end _ _ _ (l .before .before .before .before .pre) _ _ (l .loop .inv .2) (seen s) (sym (c .before .settled-size .ensures) ∙ c .if1 .taken)
 
 act-requires : tie.Need-act-requires Inv-loop μ-loop
-act-requires c κs = search needs
+act-requires c κs =
+    let s = c .before .before .before in
+    let l = s .before .before .before in
+    let f = s .before .segment in
+    let rest = drop (l .loop .at) (l .before .before .before .before .args .text .now) in
+    rw part-is (
+      stands (f .result) rest (rw part-is at (f .ensures)),
+      walked-ready _ _ _ (l .before .before .before .before .pre) _ _ (l .loop .inv .2) (seen (s .before)),
+    )
 
 -- behind the segment
 behind : (c : tie.After-act Inv-loop μ-loop)
     → let s = c .before .before .before .before in
     let l = s .before .before .before in
     let a = l .before .before .before .before .args in
-    Acted (a .room) (a .text .now) (work (a .tally) (a .out .now) (a .list .now))
+    Walked (a .room) (a .text .now) (work (a .tally) (a .out .now) (a .list .now))
     (work (c .act .result) (c .act .last .1 .1 .1 .1 .0) (c .act .last .1 .1 .1 .1 .1 .0)) (l .loop .at + s .settled-size .result)
 behind c =
     let s = c .before .before .before .before in
     let l = s .before .before .before in
     rw (s .settled-size .ensures)
-    (acted-next _ _ _ _ _ (l .loop .inv .2) (seen (s .before)) _ (rw part-is at (c .act .ensures)))
+    (walked-next _ _ _ (l .before .before .before .before .pre) _ _ (l .loop .inv .2) (seen (s .before)) _ (rw part-is at (c .act .ensures)))
 
 add-at : tie.Need-add-at Inv-loop μ-loop
 add-at c = let b = behind (c .before .before .before .before) in omega (arith, b .inside)

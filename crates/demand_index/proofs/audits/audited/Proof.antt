@@ -1,5 +1,4 @@
 -- `audits::audited` meets its contract: the build leaves an index that the audit says yes to, or its refusal was right.
--- Assumes nothing.
 use mathlib.Core.Path.{_∙_}
 use borrow.Author.Tests.{not-true, not-false}
 use borrow.Author.Needs.{needs}

@@ -1,5 +1,4 @@
 -- `building::build_in_pieces` meets its contract: after each call the caller has what the course of the calls leaves.
--- Assumes nothing.
 use Prim.Native.Nat.{suc, _-_, _≤_}
 use mathlib.Core.Path.{_∙_}
 use lib.ListN.{length}

@@ -1,5 +1,4 @@
 -- `building::cut_at` meets its contract: behind the last position it is the end.
--- Assumes nothing.
 use mathlib.Core.Path.{sym}
 use lib.ListN.{List·getD-eq-default}
 use borrow.Author.Needs.{needs}

@@ -1,5 +1,4 @@
 -- `building::end` meets its contract: what finish answers decides.
--- Assumes nothing.
 use borrow.Author.Needs.{needs}
 use Rattle.demand_index.proofs.CallByCall.{finish-builds}
 use Rattle.demand_index.proofs.building.end.Statement.{statement}

@@ -1,5 +1,4 @@
 -- `building::may_refuse` meets its contract: its two tests.
--- Assumes nothing.
 use borrow.Author.Tests.{lt-ltb, le-ltb}
 use borrow.Author.Needs.{needs}
 use Rattle.terms.specs.Limits.{limit}

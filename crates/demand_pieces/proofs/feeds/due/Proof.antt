@@ -1,5 +1,4 @@
 -- `feeds::due` meets its contract: its tests are those of the checks, in their order.
--- Assumes nothing.
 use native.Mathlib.Omega.{arith}
 use Rattle.demand_pieces.proofs.RefusedUnchanged.{tests, due-over, due-list, due-places}
 use Rattle.demand_pieces.proofs.feeds.due.Statement.{statement}

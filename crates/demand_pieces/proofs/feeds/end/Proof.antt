@@ -1,5 +1,4 @@
 -- `feeds::end` meets its contract: what finish told, left in its part of the output and in the list.
--- Assumes nothing.
 use native.Mathlib.Omega.{arith}
 use Rattle.demand_pieces.proofs.CallsOnTheWay.{end-before, end-granted, end-refused, end-fits}
 use borrow.Author.Needs.{needs}

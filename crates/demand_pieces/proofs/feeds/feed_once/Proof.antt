@@ -1,5 +1,4 @@
 -- `feeds::feed_once` meets its contract: start, and then the feed and finish.
--- Assumes nothing.
 use mathlib.Core.Path.{ap}
 use mathlib.Core.List.{[], _∷_}
 use Rattle.demand_pieces.specs.Feeds.{given, whole}

@@ -1,5 +1,4 @@
 -- `feeds::feed_piece` meets its contract: what the feed told, left in its part of the output and in the list.
--- Assumes nothing.
 use Prim.Native.Nat.{_≤_}
 use lib.ListN.{length}
 use native.Mathlib.Omega.{arith}

@@ -1,5 +1,4 @@
 -- `feeds::feed_pieces` meets its contract: start, and then the feeds and finish.
--- Assumes nothing.
 use mathlib.Core.Path.{ap}
 use Rattle.demand_pieces.specs.Feeds.{given, pieces}
 use Rattle.demand_pieces.proofs.CallsOnTheWay.{ready-fresh, through-ready, through-refused}

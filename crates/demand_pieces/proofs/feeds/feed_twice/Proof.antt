@@ -1,8 +1,8 @@
 -- `feeds::feed_twice` meets its contract: the second feed goes on from the first.
--- Assumes nothing.
 use mathlib.Core.Path.{sym, ap, subst, _∙_}
 use lib.ListN.{length}
-use Rattle.demand_pieces.specs.Feeds.{held, call, fedOne}
+use Rattle.demand_pieces.specs.Feeds.{held, call}
+use Rattle.demand_pieces.specs.Inside.Feeding.{fedOne}
 use Rattle.demand_pieces.proofs.CuttingDoesNotMatter.{Bounded, one-bounded}
 use borrow.Author.Needs.{needs}
 use Rattle.demand_pieces.proofs.feeds.feed_twice.Statement.{statement}

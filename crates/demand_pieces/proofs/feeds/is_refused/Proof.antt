@@ -1,5 +1,4 @@
 -- `feeds::is_refused` meets its contract: a refusal changes nothing, and tells its number.
--- Assumes nothing.
 use mathlib.Core.Path.{sym}
 use lib.Seq.{length-take-le}
 use Rattle.demand_pieces.proofs.RefusedUnchanged.{not-granted, refused-so}

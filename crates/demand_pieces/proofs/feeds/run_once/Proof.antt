@@ -1,8 +1,8 @@
 -- `feeds::run_once` meets its contract: the feed, and then finish.
--- Assumes nothing.
 use mathlib.Core.Path.{_≡_, ap, _∙_}
 use mathlib.Core.List.{[], _∷_}
-use Rattle.demand_pieces.specs.Feeds.{held, fedOne, finished, whole}
+use Rattle.demand_pieces.specs.Feeds.{held, finished, whole}
+use Rattle.demand_pieces.specs.Inside.Feeding.{fedOne}
 use Rattle.demand_pieces.proofs.CuttingDoesNotMatter.{behind}
 use Rattle.demand_pieces.proofs.CutByCut.{begins, behind-bounded}
 use borrow.Author.Needs.{needs}

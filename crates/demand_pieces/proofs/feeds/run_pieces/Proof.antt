@@ -1,12 +1,12 @@
 -- `feeds::run_pieces` meets its contract: the pieces before cut i are fed.
--- Assumes nothing.
 use mathlib.Core.Path.{_≡_, sym, ap, ap₂, subst, _∙_}
 use Prim.Native.Nat.{_-_, _≤_}
 use mathlib.Core.Bool.{true≢false}
 use lib.ListN.{length, getD}
 use borrow.Author.Tests.{not-true}
 use native.Mathlib.Omega.{arith}
-use Rattle.demand_pieces.specs.Feeds.{held, fedTwice, finished, pieces}
+use Rattle.demand_pieces.specs.Feeds.{held, finished, pieces}
+use Rattle.demand_pieces.specs.Inside.Feeding.{fedTwice}
 use Rattle.demand_pieces.proofs.CuttingDoesNotMatter.{behind}
 use Rattle.demand_pieces.proofs.CutByCut.{begins, behind-bounded, behind-sound, Cutting, cutting-start, cutting-bounded, cutting-sound, cutting-next, cutting-end}
 use borrow.Author.Needs.{needs}

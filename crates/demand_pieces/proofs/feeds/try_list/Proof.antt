@@ -1,5 +1,4 @@
 -- `feeds::try_list` meets its contract: the copy passes its tests, and no list is long enough for none.
--- Assumes nothing.
 use mathlib.Core.Path.{ap}
 use mathlib.Core.List.{_++_}
 use native.Mathlib.Omega.{arith}

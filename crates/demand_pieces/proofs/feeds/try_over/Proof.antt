@@ -1,5 +1,4 @@
 -- `feeds::try_over` meets its contract: the copy passes its tests, and has taken all that it may.
--- Assumes nothing.
 use native.Mathlib.Omega.{arith}
 use Rattle.demand_pieces.proofs.RefusedUnchanged.{tests, over-refused}
 use borrow.Author.Needs.{needs}

@@ -1,5 +1,4 @@
 -- `feeds::try_places` meets its contract: the bytes settle something, so that there is a need.
--- Assumes nothing.
 use mathlib.Core.Path.{sym, ap, _∙_}
 use Prim.Native.Nat.{_+_}
 use mathlib.Core.List.{_++_}

@@ -1,5 +1,4 @@
 -- `feeds::try_refused` meets its contract: each in turn is refused.
--- Assumes nothing.
 use mathlib.Core.Path.{sym, _∙_}
 use mathlib.Core.Bool.{true≢false}
 use borrow.Author.Tests.{not-true}

@@ -1,5 +1,4 @@
 -- `state::is_sound` meets its contract: each test in its turn.
--- Assumes nothing.
 use mathlib.Core.Path.{sym, _∙_}
 use mathlib.Core.Bool.{true≢false}
 use borrow.Author.Tests.{not-true, not-false}

@@ -1,5 +1,4 @@
 -- `marking::mark` meets its contract: four numbers, one behind another.
--- Assumes nothing.
 use Prim.Native.Nat.{_/_}
 use lib.ListN.{length, length-set}
 use borrow.Author.Tests.{le-ltb, lt-ltb}

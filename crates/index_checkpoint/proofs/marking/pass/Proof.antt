@@ -1,5 +1,4 @@
 -- `marking::pass` meets its contract: each test is the definition's.
--- Assumes nothing.
 use Prim.Native.Nat.{_+_, _*_, _/_}
 use borrow.Author.Tests.{lt-ltb, le-ltb, eq-eqb, ne-eqb}
 use borrow.Author.Needs.{needs}

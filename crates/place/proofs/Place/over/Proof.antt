@@ -1,5 +1,4 @@
 -- The limit is less than the sum, which is not computed.
--- Assumes nothing.
 use mathlib.Core.Path.{_≡_}
 use Prim.Native.Nat.{ℕ, _+_, _-_, _≤_}
 use lib.Dec.{ltb}

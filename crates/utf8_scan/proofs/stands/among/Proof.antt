@@ -1,5 +1,4 @@
 -- Both tests are those of the range.
--- Assumes nothing.
 use borrow.Author.Tests.{le-leb, lt-leb}
 use Rattle.utf8_scan.proofs.stands.among.Statement.{statement}
 use Rattle.utf8_scan.proofs.stands.among.Tie as tie

@@ -1,5 +1,4 @@
 -- `stands::byte_before` meets its contract: outside the text there is 0.
--- Assumes nothing.
 use mathlib.Core.Path.{sym}
 use borrow.Author.Needs.{needs}
 use borrow.Author.Tests.{lt-ltb, le-ltb}

@@ -1,5 +1,4 @@
 -- `stands::high_of` meets its contract: the tests are those of the definition.
--- Assumes nothing.
 use borrow.Author.Tests.{eq-eqb, ne-eqb}
 use Rattle.utf8_scan.proofs.stands.high_of.Statement.{statement}
 use Rattle.utf8_scan.proofs.stands.high_of.Tie as tie

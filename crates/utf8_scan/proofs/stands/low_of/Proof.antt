@@ -1,5 +1,4 @@
 -- `stands::low_of` meets its contract: the tests are those of the definition.
--- Assumes nothing.
 use borrow.Author.Tests.{eq-eqb, ne-eqb}
 use Rattle.utf8_scan.proofs.stands.low_of.Statement.{statement}
 use Rattle.utf8_scan.proofs.stands.low_of.Tie as tie

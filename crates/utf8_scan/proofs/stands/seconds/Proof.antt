@@ -1,5 +1,4 @@
 -- `stands::seconds` meets its contract: both ranges are tested.
--- Assumes nothing.
 use mathlib.Core.Path.{sym, _∙_}
 use borrow.Author.Needs.{needs}
 use borrow.Author.Tests.{not-true, not-false}

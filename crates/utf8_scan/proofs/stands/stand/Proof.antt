@@ -1,5 +1,4 @@
 -- `stands::stand` meets its contract: the tests are those of the definition.
--- Assumes nothing.
 use borrow.Author.Needs.{needs}
 use borrow.Author.Tests.{le-leb, lt-leb}
 use Rattle.utf8_scan.specs.Stands.{stands}

@@ -1,5 +1,4 @@
 -- `stands::waiting` meets its contract: the tests are those of the definition.
--- Assumes nothing.
 use mathlib.Core.Path.{sym}
 use native.Mathlib.Omega.{arith}
 use borrow.Author.Needs.{needs}

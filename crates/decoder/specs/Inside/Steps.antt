@@ -1,0 +1,70 @@
+-- What the decoder's steps promise each other: a piece is fed behind what is pending, and the text ends.
+use mathlib.Core.Path.{_≡_}
+use Prim.Native.Nat.{ℕ, _+_, _*_, _≤_}
+use mathlib.Core.Bool.{cond}
+use mathlib.Core.List.{List, [], _∷_, _++_, foldl}
+use lib.ListN.{length}
+use lib.Dec.{eqb}
+use Rattle.theory.specs.Reader.{parts}
+use Rattle.theory.specs.Stream.{State}
+use Rattle.theory.specs.Tally.{total, size, Log}
+use Rattle.terms.specs.Limits.{limit, entryWidth}
+use Rattle.terms.specs.Told.{toldRefusal, toldFirst, firstSays, ifGranted}
+use Rattle.terms.specs.Told as told
+use Rattle.terms.specs.Writing.{roomed, outputOf}
+use Rattle.terms.specs.declared.Decoder.{Decoder}
+use Rattle.terms.specs.declared.First.{First}
+use Rattle.terms.specs.declared.First.the-variants.{Nothing, Damage}
+use Rattle.utf8.specs.Bytes.{bytes}
+use Rattle.utf8.specs.Pending.{padded}
+use Rattle.utf8_pending.specs.Tail.{firstSettled}
+use Rattle.decoder.specs.declared.tally.Tally.{Tally}
+use Rattle.decoder.specs.State.{act, opened, closed}
+use Rattle.decoder.specs.declared.Fed.{Fed}
+use Rattle.decoder.specs.declared.checks.Admission.{Admission}
+use Rattle.decoder.specs.declared.checks.Admission.the-variants.{Granted, Refused}
+
+-- what the checks before a call tell
+abbrev pub admission : Admission → List ℕ
+admission Granted = 0 ∷ []
+admission (Refused r) = toldRefusal r
+
+-- the tally that a state begins with, and the state that keeps a tally and what is left
+abbrev pub tallyOf : Decoder → Tally
+tallyOf d = record { whole = d .whole; damaged = d .damaged; count = d .count; written = 0 }
+
+abbrev pub keeping : List ℕ → Tally → ℕ → ℕ → Decoder
+keeping rest t taken room = record {
+  held = padded rest;
+  pending = length rest;
+  taken = taken;
+  whole = t .whole;
+  damaged = t .damaged;
+  count = t .count;
+  room = room;
+}
+
+-- the segment that a seam begins with, as the reader told of it, and a text behind it, which a state may take
+pub record Rests (d : Decoder) (seg : First) (seam rest list : List ℕ) : Type 0 where
+  pub tells : toldFirst seg ≡ firstSays bytes seam
+  pub sums : d .whole + d .damaged + total size (firstSettled seam) + length rest ≤ limit
+  pub counts : d .count ≤ d .damaged
+  pub row : entryWidth * d .room ≤ length list
+
+-- the stream behind them
+abbrev pub behind : Decoder → List ℕ → List ℕ → List ℕ → State Log
+behind d seam rest list = record {
+  left = parts bytes rest .left;
+  kept = foldl (act (d .room)) (opened d list .kept) (firstSettled seam ++ parts bytes rest .done);
+}
+
+-- what a feed answers where only the output may be too short, and the stream is this one after it
+pub record Answers (d : Decoder) (taken : ℕ) (s : State Log) (out list out′ list′ : List ℕ) (r : Fed) : Type 0 where
+  pub answer : told.toldWritten (r .answer) ≡ roomed (length out) (s .kept .out)
+  pub state : r .state ≡ ifGranted (roomed (length out) (s .kept .out)) (closed d taken s) d
+  pub output : out′ ≡ outputOf (roomed (length out) (s .kept .out)) (s .kept .out) out
+  pub entries : list′ ≡ ifGranted (roomed (length out) (s .kept .out)) (s .kept .list) list
+
+-- at the end pending bytes, if any, are one damage
+abbrev pub lastOf : ℕ → First
+lastOf n = cond (eqb n 0) Nothing (Damage n)

@@ -1,0 +1,2 @@
+-- What cutting at a place asks
+pub mod Cuttings

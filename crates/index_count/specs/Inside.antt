@@ -1,0 +1,2 @@
+-- Where a text of whole segments may be cut
+pub mod Edges

@@ -1,0 +1,2 @@
+-- What a turn of the report's loop has done where there is more to read: it has taken bytes, within the limit
+pub mod Going
