@@ -30,7 +30,6 @@ use Rattle.decoder.proofs.ChecksInOrder.{Admits, admitted-then, granted
 use Rattle.decoder.proofs.TestsAsFacts.{is-sound}
 use Rattle.decoder.specs.State.{left, numbers, act, opened, fed, ended}
 use Rattle.decoder.specs.Feeding.{feedSays, Feeds, finishSays}
-use Rattle.decoder.specs.Feeding as feeding
 use Rattle.decoder.specs.Course.{Call, Caller, starting, wrote, feedOf, fedAll, Holds, FedAsWhole}
 use Rattle.decoder.specs.declared.Fed.{Fed}
 

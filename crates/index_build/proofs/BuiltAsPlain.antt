@@ -10,7 +10,6 @@ use lib.Seq.{sets, length-sets, take-at, drop-at}
 use native.Mathlib.Omega.{arith}
 use Rattle.theory.specs.Reader.{cut, parts}
 use Rattle.theory.specs.Stream.{join, State, after, feed, fresh}
-use Rattle.theory.specs.Stream as stream
 use Rattle.theory.specs.Course.{Course, called}
 use Rattle.theory.specs.Index.{Built, add, startMarked, build}
 use Rattle.theory.proofs.AnyCalls.{course-keeps, Follows, follows-start}

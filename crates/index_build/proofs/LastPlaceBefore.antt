@@ -18,7 +18,6 @@ use Rattle.place.proofs.ReaderDivides.{reader-division}
 use Rattle.index_count.specs.Inside.Edges.{Edge}
 use Rattle.index_count.proofs.CutsBetweenSegments.{Cut, cut-edge, first-edge}
 use Rattle.place.specs.Measures.{ruler, reader}
-use Rattle.place.specs.Lookup.{fourCounts}
 use Rattle.place.specs.declared.Place.{Place}
 use Rattle.place.proofs.MeasuresRise.{measured}
 use Rattle.index_build.specs.Inside.Summed.{summed}

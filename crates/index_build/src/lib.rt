@@ -1,6 +1,5 @@
 // The builder of an index from a byte text that comes in pieces.
 use place::Place;
-use terms::First;
 ghost use mathlib.Core.Path.{_≡_};
 ghost use Prim.Native.Nat.{_+_, _≤_};
 ghost use lib.ListN.{length};
