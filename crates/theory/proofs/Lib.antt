@@ -8,6 +8,8 @@ pub mod PieceMore
 pub mod AnyCalls
 -- The laws of what is kept: totals and entries of two runs of segments, the list with room, and the log of a text in pieces
 pub mod TalliesAdd
+-- A RUN OF WHOLE SEGMENTS: nothing of it is left while more text may follow, and what it does to a log, for any written form
+pub mod WholeRuns
 -- Rows of numbers: runs written one over another, entries of one width and how they are read back, and the multiples of a spacing
 pub mod Rows
 -- The laws of places: lookup by any measure, the last place at or before a count, and both in a text that is divided

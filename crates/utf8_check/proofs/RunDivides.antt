@@ -1,23 +1,24 @@
--- A run of whole segments at the start of a byte text: the text divides into its segments and those of the rest.
+-- A run of whole segments at the start of a byte text: the text divides into its segments and those of the rest, and they are settled.
 use mathlib.Core.Path.{_≡_, refl, sym, ap, _∙_, subst}
 use Prim.Native.Nat.{ℕ, suc, _+_, _-_, _≤_, _<_}
 use mathlib.Core.Bool.{true}
 use mathlib.Core.List.{List, [], _∷_, _++_}
-use lib.ListN.{length, take, drop, length-append, length-drop}
+use lib.ListN.{length, take, drop, length-append, length-drop, take-append-drop}
 use lib.Seq.{take-append-add, drop-append-add, take-append-seam, drop-append-seam, length-take-le}
 use native.Mathlib.Omega.{arith}
-use Rattle.theory.specs.Reader.{Look, Segment, cut}
+use Rattle.theory.specs.Reader.{Look, Segment, cut, parts}
 use Rattle.theory.specs.Table.{Kind, whole, damage, isDamage}
 use Rattle.theory.specs.Tally.{total, size, entries}
 use Rattle.theory.proofs.Cases.{All}
-use Rattle.theory.proofs.Divisions.{cut-nil, cut-cons, cut-size}
+use Rattle.theory.proofs.Divisions.{before, cut-nil, cut-cons, cut-size}
+use Rattle.theory.proofs.WholeRuns.{Undamaged, run-parts}
 use Rattle.terms.specs.Told.{toldFirst, sizeOf, firstSays}
 use Rattle.terms.specs.declared.First.{First}
 use Rattle.terms.specs.declared.First.the-variants.{Nothing, Whole, Damage, Begun}
 use Rattle.terms.proofs.WalkBySegments.{part-is, seen, Turn, turn-damage, turn-begun, turn-end, Clean}
 use Rattle.utf8.specs.Bytes.{bytes}
 use Rattle.utf8_check.specs.Run.{startOr, wholeRun}
-use Rattle.utf8.proofs.RowsOfBytes.{bytes-division}
+use Rattle.utf8.proofs.RowsOfBytes.{bytes-division, whole-sure}
 
 -- its first n bytes are whole segments by themselves, and the others divide by themselves
 pub record Run (text : List ℕ) (n : ℕ) : Type 0 where
@@ -52,6 +53,20 @@ module _ (x : ℕ) (hs : List ℕ) (w : (ys : List ℕ) → bytes x (hs ++ ys) �
         all = rw (t, cut-more (take n ys)) (refl, r .all);
         cuts = cut-more ys ∙ rw (t, d, cut-more (take n ys), r .cuts);
       }
+
+-- ---- all of it is settled, whatever follows, and then what is settled of the rest
+
+whole-tags : (ss : List (Segment Kind)) → All (λ s. s .tag ≡ whole) ss → Undamaged isDamage ss
+whole-tags [] a = tt
+whole-tags (s ∷ ss) a = (rw (a .0), whole-tags ss (a .1))
+
+module _ (text : List ℕ) (n : ℕ) (r : Run text n) where
+  pub run-whole : Undamaged isDamage (cut bytes (take n text))
+  run-whole = whole-tags (cut bytes (take n text)) (r .all)
+
+  pub run-settles : parts bytes text ≡ before (cut bytes (take n text)) (parts bytes (drop n text))
+  run-settles =
+      ap (parts bytes) (sym (take-append-drop n text)) ∙ run-parts isDamage bytes whole-sure bytes-division (take n text) (drop n text) run-whole
 
 -- ---- the run and the first damage
 

@@ -1,0 +1,27 @@
+-- The segment that stands first in a byte text, where its first byte tells it: one byte below 0x80, or from 0x80 to 0xC1.
+use mathlib.Core.Path.{_≡_, refl, sym}
+use Prim.Native.Nat.{ℕ, _≤_, _<_}
+use mathlib.Core.List.{List, []}
+use lib.ListN.{length, getD}
+use native.Mathlib.Omega.{arith}
+use Rattle.theory.specs.Table.{_to_}
+use Rattle.terms.specs.Told.{toldFirst, firstSays}
+use Rattle.terms.specs.declared.First.the-variants.{Whole, Damage}
+use Rattle.utf8.specs.Bytes.{row, rows, bytes}
+use Rattle.utf8.specs.declared.Lead.the-variants.{Alone, Begins}
+use Rattle.utf8.proofs.RowsOfBytes.{at-row, at-none, first-alone, first-begun}
+
+module _ (text : List ℕ) (some : 0 < length text) where
+  -- a byte below 0x80 is whole by itself
+  pub told-one : getD text 0 0 < 0x80 → toldFirst (Whole 1) ≡ firstSays bytes text
+  unfolding rows
+  told-one h =
+      let b = at-row 0 (row (0x00 to 0x7F) []) refl (getD text 0 0) (omega arith) in
+      sym (first-begun text some (Begins 0 0x80 0xBF) b 0 0x80 0xBF refl)
+
+  -- from 0x80 to 0xC1 no sequence begins
+  pub told-alone : 0x80 ≤ getD text 0 0 → getD text 0 0 < 0xC2 → toldFirst (Damage 1) ≡ firstSays bytes text
+  unfolding rows
+  told-alone l h =
+      let b = at-none 1 refl (getD text 0 0) (omega arith) in
+      first-alone text some Alone b refl
