@@ -29,7 +29,7 @@ use Rattle.decoder.specs.Inside.Acting.{need, places, toldOf, Stands, Wo
 use Rattle.decoder.specs.Inside.Steps.{tallyOf, keeping, Rests, behind, Answers}
 use Rattle.decoder.specs.declared.Fed.{Fed}
 use Rattle.decoder.proofs.ChecksInOrder.{admits, admitted-then, refused-so}
-use Rattle.decoder.proofs.SpanOfSettled.{need-append, need-small}
+use Rattle.decoder.proofs.SettledPlaces.{need-append, need-small}
 use Rattle.decoder.proofs.SettledByReader.{Told, told, stands}
 use Rattle.decoder.proofs.SegmentsAct.{logs-long, acted-append, ready-front, ready-behind}
 

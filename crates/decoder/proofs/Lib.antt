@@ -24,9 +24,9 @@ pub mod TestsAsFacts
 pub mod ChecksInOrder
 -- An entry in the list: it is stored where there is room for it
 pub mod EntryStored
--- The span of what is settled: what is left stands behind it, and it takes at most three places for each byte
-pub mod SpanOfSettled
+-- What is settled of a text: what is left stands behind it, and it takes at most three places for each byte
+pub mod SettledPlaces
 -- What the reader told of a text is the settled segment that stands first in it, with its bytes and its places
 pub mod SettledByReader
--- The walks over the settled segments of a text: the one that counts, and the one in which each acts
+-- The walks over the settled segments of a text, by runs of whole segments and one segment behind each: the one that counts, and the one in which each acts
 pub mod SettledWalk

@@ -19,7 +19,7 @@ use Rattle.utf8.specs.Scalar.{utf8}
 use Rattle.decoder.specs.State.{numbers, act}
 use Rattle.decoder.specs.Inside.Acting.{need, segmentOf, Work, work, logOf, reached, Ready, acted, passed, mended}
 use Rattle.decoder.specs.declared.tally.Tally.{Tally}
-use Rattle.decoder.proofs.SpanOfSettled.{need-append}
+use Rattle.decoder.proofs.SettledPlaces.{need-append}
 
 -- ---- what a log leaves of an output
 
@@ -97,6 +97,11 @@ module _ (room : ℕ) where
       → mended room n l ≡ foldl (act room) l (segmentOf damage run)
   mended-acts n [] e k l = absurd (omega arith)
   mended-acts n (x ∷ xs) e k l = rw e (simp add-zero)
+
+-- no bytes do nothing
+pub passed-none : (run : List ℕ) → length run ≡ 0 → (w : Work) → w .tally .written ≤ length (w .out) → w ≡ reached (w .out) (passed run (logOf w))
+passed-none [] e w h = simp (add-zero, append-nil, length-take-le (w .tally .written) (w .out) h, take-append-drop (w .tally .written) (w .out))
+passed-none (x ∷ xs) e w h = absurd (omega arith)
 
 -- so much was written behind what stood in the output
 module _ (t : Tally) (out list vs ys : List ℕ) (h : t .written + length vs ≤ length out) (e : ys ≡ vs ++ drop (length vs) (lent out (t .written))) where

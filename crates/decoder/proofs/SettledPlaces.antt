@@ -1,10 +1,12 @@
--- The span of what is settled: what is left stands behind it, and it takes at most three places for each byte.
+-- What is settled of a text: what is left stands behind it, and it takes at most three places for each byte; and what is lacking of them.
 use mathlib.Core.Path.{_≡_, sym, ap, _∙_}
-use Prim.Native.Nat.{ℕ, _+_, _*_, _≤_}
+use Prim.Native.Nat.{ℕ, _+_, _*_, _≤_, _<_}
 use native.Mathlib.Nat.{mul-add}
 use mathlib.Core.List.{List, [], _∷_, _++_}
 use lib.ListN.{length, drop, length-append}
 use lib.Seq.{drop-at}
+use lib.Dec.{ltb}
+use borrow.Author.Tests.{ltb-true, ltb-false}
 use native.Mathlib.Omega.{arith}
 use Rattle.theory.specs.Reader.{Segment, body, parts}
 use Rattle.theory.specs.Table.{Kind, isDamage}
@@ -14,8 +16,7 @@ use Rattle.theory.proofs.Divisions.{written-append, length-written, parts-text,
 use Rattle.terms.specs.Form.{mend}
 use Rattle.utf8.specs.Bytes.{bytes}
 use Rattle.utf8.specs.Scalar.{utf8}
-use Rattle.decoder.specs.Inside.Acting.{need}
-use Rattle.decoder.specs.Inside.Span.{spanOf}
+use Rattle.decoder.specs.Inside.Acting.{need, lack}
 
 pub need-append : (ss ts : List (Segment Kind)) → need (ss ++ ts) ≡ need ss + need ts
 need-append ss ts = rw (written-append (mend utf8) ss ts, length-append)
@@ -31,11 +32,24 @@ pub parts-small : (text : List ℕ) → need (parts bytes text .done) ≤ 3 * le
 parts-small text = omega (arith, need-small (parts bytes text .done), parts-size bytes text)
 
 module _ (text : List ℕ) where
-  pub span-inside : spanOf text .size ≤ length text
-  span-inside = omega (arith, parts-size bytes text)
+  pub settled-inside : total size (parts bytes text .done) ≤ length text
+  settled-inside = omega (arith, parts-size bytes text)
 
-  pub span-left : drop (spanOf text .size) text ≡ parts bytes text .left
-  span-left =
+  pub settled-left : drop (total size (parts bytes text .done)) text ≡ parts bytes text .left
+  settled-left =
       let done = written body (parts bytes text .done) in
-      ap (drop (spanOf text .size)) (sym (parts-text bytes text))
-      ∙ drop-at done (parts bytes text .left) (spanOf text .size) (length-written body (parts bytes text .done))
+      ap (drop (total size (parts bytes text .done))) (sym (parts-text bytes text))
+      ∙ drop-at done (parts bytes text .left) (total size (parts bytes text .done)) (length-written body (parts bytes text .done))
+
+-- ---- what is lacking: something where so many places are too few, and nothing where they are enough
+
+module _ (needed most n : ℕ) (e : n ≡ lack needed most) where
+  pub lack-some : 0 < n → (n ≡ needed) × (most < n)
+  lack-some h = split (ltb most needed)
+      (λ t. let z : n ≡ needed = e ∙ rw t in (z, rw z (ltb-true most needed t)))
+      (λ t. let z : n ≡ 0 = e ∙ rw t in absurd (omega arith))
+
+  pub lack-none : n ≤ 0 → needed ≤ most
+  lack-none h = split (ltb most needed)
+      (λ t. let z : n ≡ needed = e ∙ rw t in let l : most < needed = ltb-true most needed t in absurd (omega arith))
+      (λ t. ltb-false most needed t)

@@ -1,81 +1,122 @@
--- The walks over the settled segments of a text: the one that counts, and the one in which each acts.
+-- The walks over the settled segments of a text, by runs of whole segments and one segment behind each: the one that counts, and the
+-- one in which each acts.
 use mathlib.Core.Path.{_≡_, refl, sym, ap, subst, _∙_}
-use Prim.Native.Nat.{ℕ, _+_, _*_, _≤_}
-use mathlib.Core.List.{List, [], _++_, append-assoc, append-nil}
-use lib.ListN.{length, drop, length-drop}
-use lib.Seq.{drop-drop}
+use Prim.Native.Nat.{ℕ, _+_, _-_, _*_, _≤_}
+use mathlib.Core.List.{List, [], _++_, foldl, append-assoc, append-nil}
+use lib.ListN.{length, take, drop, length-drop}
+use lib.Seq.{drop-drop, length-take-le}
 use native.Mathlib.Omega.{arith}
-use Rattle.theory.specs.Reader.{Segment, Parts, parts}
-use Rattle.theory.specs.Table.{Kind}
-use Rattle.theory.specs.Tally.{total, size}
-use Rattle.theory.proofs.Divisions.{total-append}
+use Rattle.theory.specs.Reader.{Segment, Parts, cut, parts}
+use Rattle.theory.specs.Table.{Kind, isDamage}
+use Rattle.theory.specs.Tally.{total, size, Log}
+use Rattle.theory.proofs.Divisions.{total-append, cut-size}
+use Rattle.theory.proofs.WholeRuns.{run-logged}
+use Rattle.terms.specs.Form.{repaired, mend}
+use Rattle.terms.specs.Limits.{limit, entryWidth}
 use Rattle.terms.specs.declared.First.{First}
+use Rattle.terms.proofs.ConvertsBack.{whole-none, repaired-same}
 use Rattle.utf8.specs.Bytes.{bytes}
+use Rattle.utf8.specs.Scalar.{utf8}
+use Rattle.utf8_check.specs.Pace.{pacedRun}
+use Rattle.utf8_check.specs.declared.pace.Pace.{Pace}
+use Rattle.utf8_check.proofs.RunDivides.{Run, run-whole, run-settles}
+use Rattle.utf8_check.proofs.RunsPassed.{run-there}
 use Rattle.utf8_pending.specs.Tail.{firstSettled, settledSize}
 use Rattle.utf8_pending.proofs.SettledFirst.{settled-parts, settled-inside, settled-none}
-use Rattle.decoder.specs.Inside.Acting.{need, places, toldOf, Work, Fits, Ready, acted}
-use Rattle.decoder.specs.Inside.Span.{spanOf}
-use Rattle.decoder.proofs.SpanOfSettled.{need-append, parts-small}
+use Rattle.decoder.specs.State.{numbers, act}
+use Rattle.decoder.specs.Inside.Acting.{need, places, Work, logOf, reached, Fits, Ready, acted, passed}
+use Rattle.decoder.proofs.SettledPlaces.{need-append, parts-small}
 use Rattle.decoder.proofs.SegmentsAct.{acted-append, acted-none, ready-front, ready-behind}
 use Rattle.decoder.proofs.SettledByReader.{Told}
 
 abbrev done : List ℕ → List (Segment Kind)
 done text = parts bytes text .done
 
--- the settled segments: the one that stands first, and then those of the rest
-done-is : (text : List ℕ) → done text ≡ firstSettled text ++ done (drop (total size (firstSettled text)) text)
-done-is text = ap (λ (p : Parts Kind). p .done) (settled-parts text)
+-- ---- A TURN of a walk: where it has come to, these settled segments stand next, of so many bytes and places
 
-done-none : (text : List ℕ) → total size (firstSettled text) ≡ 0 → done text ≡ []
-done-none text z = ap (λ (p : Parts Kind). p .done) (settled-none text z .1)
+pub record Turn (text : List ℕ) (at n places : ℕ) (next : List (Segment Kind)) : Type 0 where
+  pub inside : at + n ≤ length text
+  pub done-are : done (drop at text) ≡ next ++ done (drop (at + n) text)
+  pub size-is : n ≡ total size next
+  pub need-is : places ≡ need next
 
--- a walk has come to a place, and the reader told of the rest of the text
+-- the segment that the reader told of the rest of the text
 module _ (text : List ℕ) (at : ℕ) (h : at ≤ length text) {r : First} (d : Told r (drop at text)) where
-  turn-inside : at + settledSize r ≤ length text
-  turn-inside = omega (arith, d .size-is, settled-inside (drop at text), length-drop at text)
+  pub told-turn : Turn text at (settledSize r) (places r) (firstSettled (drop at text))
+  told-turn = record {
+    inside = omega (arith, d .size-is, settled-inside (drop at text), length-drop at text);
+    done-are = ap (λ (p : Parts Kind). p .done) (settled-parts (drop at text)) ∙ rw (d .size-is, ← drop-drop (total size (firstSettled (drop at text))) at text);
+    size-is = d .size-is;
+    need-is = d .places-is;
+  }
 
-  turn-done : done (drop at text) ≡ firstSettled (drop at text) ++ done (drop (at + settledSize r) text)
-  turn-done = done-is (drop at text) ∙ rw (d .size-is, ← drop-drop (total size (firstSettled (drop at text))) at text)
+  told-none : settledSize r ≡ 0 → done (drop at text) ≡ []
+  told-none z = ap (λ (p : Parts Kind). p .done) (settled-none (drop at text) (sym (d .size-is) ∙ z) .1)
 
-  turn-none : settledSize r ≡ 0 → done (drop at text) ≡ []
-  turn-none z = done-none (drop at text) (sym (d .size-is) ∙ z)
+-- a run of whole segments is written as it is
+module _ (text : List ℕ) (n : ℕ) (r : Run text n) where
+  run-mended : repaired utf8 (take n text) ≡ take n text
+  run-mended = repaired-same utf8 (take n text) (whole-none 0 (cut bytes (take n text)) (r .all))
+
+  run-passed : (room : ℕ) (l : Log) → passed (take n text) l ≡ foldl (act room) l (cut bytes (take n text))
+  run-passed room l =
+      sym (run-logged isDamage (mend utf8) numbers entryWidth room l (cut bytes (take n text)) (run-whole text n r)
+      ∙ rw (cut-size bytes (take n text), run-mended))
+
+-- the segments of n bytes from a place on
+abbrev pub run : List ℕ → ℕ → ℕ → List (Segment Kind)
+run text at n = cut bytes (take n (drop at text))
+
+-- the run that was found in `&text[at..]`, at any pace
+module _ (text : List ℕ) (at : ℕ) (pace : Pace) (n : ℕ) (h : at ≤ length text) (e : n ≡ pacedRun (take (length text - at) (drop at text)) pace) where
+  there : Run (drop at text) n
+  there = run-there text at pace n h e
+
+  long : length (take n (drop at text)) ≡ n
+  long = length-take-le n (drop at text) (there .inside)
+
+  pub run-turn : Turn text at n n (run text at n)
+  run-turn = record {
+    inside = omega (arith, there .inside, length-drop at text);
+    done-are = ap (λ (p : Parts Kind). p .done) (run-settles (drop at text) n there) ∙ rw (drop-drop n at text);
+    size-is = sym (cut-size bytes (take n (drop at text)) ∙ long);
+    need-is = sym (ap length (run-mended (drop at text) n there) ∙ long);
+  }
+
+  -- `&text[at..at + n]`, as it is handed on, has room where the turn has, and does what the run's segments do
+  part : take (at + n - at) (drop at text) ≡ take n (drop at text)
+  part = let k : at + n - at ≡ n = omega arith in rw k
+
+  module _ (room : ℕ) (w : Work) where
+    pub run-fits : Fits room n n w
+        → (w .tally .written + length (take (at + n - at) (drop at text)) ≤ length (w .out)) × (w .tally .whole + length (take (at + n - at) (drop at text)) ≤ limit)
+    run-fits f = rw (part, long) (f .enough, omega (arith, f .sums))
+
+    pub run-acted : (v : Work) → v ≡ reached (w .out) (passed (take (at + n - at) (drop at text)) (logOf w)) → v ≡ acted room (run text at n) w
+    run-acted v q = (rw part at q) ∙ ap (reached (w .out)) (run-passed (drop at text) n there room (logOf w))
 
 -- ---- so much is counted, and the rest adds what is left
 
 module _ (text : List ℕ) where
   pub record Counted (at n : ℕ) : Type 0 where
     pub inside : at ≤ length text
-    pub sizes : at + total size (done (drop at text)) ≡ total size (done text)
     pub same : n + need (done (drop at text)) ≡ need (done text)
 
   pub counted-start : Counted 0 0
-  counted-start = record { inside = omega arith; sizes = omega arith; same = omega arith }
+  counted-start = record { inside = omega arith; same = omega arith }
 
   module _ (at n : ℕ) (c : Counted at n) where
     -- no more is counted than three places for each byte
     pub counted-small : n ≤ 3 * length text
     counted-small = omega (arith, c .same, parts-small text)
 
-    module _ {r : First} (d : Told r (drop at text)) where
-      pub counted-next : Counted (at + settledSize r) (n + places r)
-      counted-next =
-          let t = turn-done text at (c .inside) d in
-          let rest : List (Segment Kind) = done (drop (at + settledSize r) text) in
-          let k : total size (done (drop at text)) ≡ total size (firstSettled (drop at text)) + total size rest
-          = ap (total size) t ∙ total-append size (firstSettled (drop at text)) rest in
-          let l : need (done (drop at text)) ≡ need (firstSettled (drop at text)) + need rest = ap need t ∙ need-append (firstSettled (drop at text)) rest in
-          record {
-            inside = turn-inside text at (c .inside) d;
-            sizes = omega (arith, c .sizes, k, d .size-is);
-            same = omega (arith, c .same, l, d .places-is);
-          }
+    pub counted-next : {k places : ℕ} {next : List (Segment Kind)} → Turn text at k places next → Counted (at + k) (n + places)
+    counted-next {k} {places} {next} t =
+        let l : need (done (drop at text)) ≡ need next + need (done (drop (at + k) text)) = ap need (t .done-are) ∙ need-append next (done (drop (at + k) text)) in
+        record { inside = t .inside; same = omega (arith, c .same, l, t .need-is) }
 
-      pub counted-end : settledSize r ≡ 0 → record { size = at; places = n } ≡ spanOf text
-      counted-end z =
-          let t = turn-none text at (c .inside) d z in
-          let s : at ≡ total size (done text) = omega (arith, c .sizes, ap (total size) t) in
-          let p : n ≡ need (done text) = omega (arith, c .same, ap need t) in
-          λ i. record { size = s i; places = p i }
+    pub counted-end : {r : First} → Told r (drop at text) → settledSize r ≡ 0 → n ≡ need (done text)
+    counted-end d z = omega (arith, c .same, ap need (told-none text at (c .inside) d z))
 
 -- ---- the segments so far have acted, and those of the rest are still to act
 
@@ -83,7 +124,8 @@ module _ (room : ℕ) (text : List ℕ) (w₀ : Work) where
   pub record Walked (w : Work) (at : ℕ) : Type 0 where
     pub past : List (Segment Kind)
     pub inside : at ≤ length text
-    pub parts-are : done text ≡ past ++ done (drop at text)
+    pub done-are : done text ≡ past ++ done (drop at text)
+    pub size-is : at ≡ total size past
     pub same : w ≡ acted room past w₀
 
   module _ (ready : Ready room (done text) w₀) where
@@ -91,36 +133,36 @@ module _ (room : ℕ) (text : List ℕ) (w₀ : Work) where
     walked-start = record {
       past = [];
       inside = omega arith;
-      parts-are = refl;
+      done-are = refl;
+      size-is = refl;
       same = acted-none room w₀ (omega (arith, ready .enough));
     }
 
-    module _ (w : Work) (at : ℕ) (a : Walked w at) {r : First} (d : Told r (drop at text)) where
-      abbrev now : List (Segment Kind)
-      now = firstSettled (drop at text)
+    module _ (w : Work) (at : ℕ) (a : Walked w at) where
+      module _ {n places : ℕ} {next : List (Segment Kind)} (t : Turn text at n places next) where
+        abbrev rest : List (Segment Kind)
+        rest = done (drop (at + n) text)
 
-      abbrev rest : List (Segment Kind)
-      rest = done (drop (at + settledSize r) text)
+        -- there is room for them
+        pub walked-ready : Fits room places n w
+        walked-ready =
+            let p : done text ≡ a .past ++ (next ++ rest) = a .done-are ∙ ap (λ (ss : List (Segment Kind)). a .past ++ ss) (t .done-are) in
+            let b = ready-behind room (a .past) (next ++ rest) w₀ (subst (λ (ss : List (Segment Kind)). Ready room ss w₀) p ready) in
+            rw (a .same, t .size-is, t .need-is) (ready-front room next rest (acted room (a .past) w₀) b)
 
-      -- there is room for the segment
-      pub walked-ready : Fits room (places r) (settledSize r) w
-      walked-ready =
-          let p : done text ≡ a .past ++ (now ++ rest) = a .parts-are ∙ ap (λ (ss : List (Segment Kind)). a .past ++ ss) (turn-done text at (a .inside) d) in
-          let b = ready-behind room (a .past) (now ++ rest) w₀ (subst (λ (ss : List (Segment Kind)). Ready room ss w₀) p ready) in
-          rw (a .same, d .size-is, d .places-is) (ready-front room now rest (acted room (a .past) w₀) b)
+        pub walked-next : (v : Work) → v ≡ acted room next w → Walked v (at + n)
+        walked-next v e = record {
+          past = a .past ++ next;
+          inside = t .inside;
+          done-are = a .done-are
+              ∙ ap (λ (ss : List (Segment Kind)). a .past ++ ss) (t .done-are)
+              ∙ sym (append-assoc (a .past) next rest);
+          size-is = omega (arith, a .size-is, t .size-is, total-append size (a .past) next);
+          same = e ∙ rw (a .same) (acted-append room (a .past) next w₀);
+        }
 
-      pub walked-next : (v : Work) → v ≡ acted room (toldOf r (drop at text)) w → Walked v (at + settledSize r)
-      walked-next v e = record {
-        past = a .past ++ now;
-        inside = turn-inside text at (a .inside) d;
-        parts-are = a .parts-are
-            ∙ ap (λ (ss : List (Segment Kind)). a .past ++ ss) (turn-done text at (a .inside) d)
-            ∙ sym (append-assoc (a .past) now rest);
-        same = e ∙ rw (d .settled-is, a .same) (acted-append room (a .past) now w₀);
-      }
-
-      pub walked-end : settledSize r ≡ 0 → w ≡ acted room (done text) w₀
-      walked-end z =
+      pub walked-end : {r : First} → Told r (drop at text) → settledSize r ≡ 0 → (w ≡ acted room (done text) w₀) × (at ≡ total size (done text))
+      walked-end d z =
           let p : done text ≡ a .past
-          = a .parts-are ∙ ap (λ (ss : List (Segment Kind)). a .past ++ ss) (turn-none text at (a .inside) d z) ∙ append-nil (a .past) in
-          a .same ∙ ap (λ (ss : List (Segment Kind)). acted room ss w₀) (sym p)
+          = a .done-are ∙ ap (λ (ss : List (Segment Kind)). a .past ++ ss) (told-none text at (a .inside) d z) ∙ append-nil (a .past) in
+          (a .same ∙ ap (λ (ss : List (Segment Kind)). acted room ss w₀) (sym p), a .size-is ∙ ap (total size) (sym p))

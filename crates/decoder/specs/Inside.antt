@@ -1,6 +1,4 @@
 -- What settled segments do to a tally, to the output and to the list: what the log of them says
 pub mod Acting
--- The span of what is settled of a text
-pub mod Span
 -- What the decoder's steps promise each other: a piece is fed behind what is pending, and the text ends
 pub mod Steps

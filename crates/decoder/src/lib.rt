@@ -5,13 +5,13 @@ use terms::Decoder;
 use terms::First;
 use terms::Refusal;
 use terms::Written;
+use utf8_pending::Seam;
 ghost use mathlib.Core.Path.{_≡_};
 ghost use Prim.Native.Nat.{_+_};
 ghost use mathlib.Core.List.{[], _∷_};
 ghost use lib.ListN.{length};
-ghost use Rattle.utf8_pending.specs.Tail.{four};
 ghost use Rattle.decoder.specs.Checks.{admitSays};
-ghost use Rattle.decoder.specs.State.{left, fed};
+ghost use Rattle.decoder.specs.State.{fed};
 ghost use Rattle.decoder.specs.Feeding.{Starts, Feeds, Finishes};
 ghost use Rattle.decoder.specs.Room.{mostFed};
 ghost use Rattle.decoder.specs.Inside.Steps as steps;
@@ -97,9 +97,8 @@ fn feed_rest(
     ensures { λ r. ⌜ steps.Answers state taken (steps.behind state (now (seam .entry)) (now (rest .entry)) (now (list .entry)))
         (now (out .entry)) (now (list .entry)) (now (out .exit)) (now (list .exit)) r ⌝ }
 {
-    let span = crate::walk::span_of(rest);
-    let needed = crate::tally::places(seg) + span.places;
-    if out.len() < needed {
+    let needed = crate::walk::lacking(seg, rest, out.len());
+    if 0 < needed {
         return Fed {
             answer: Written::Refused(Refusal::NoRoom { needed }),
             state,
@@ -107,23 +106,24 @@ fn feed_rest(
     }
     let first = crate::tally::act(seg, seam, open_tally(state), state.room, out, list);
     let all = crate::walk::walk(rest, first, state.room, out, list);
-    let at = span.size;
+    let tally = all.tally;
+    let at = all.size;
     Fed {
-        answer: Written::Count(all.written),
-        state: keep(&rest[at..], all, taken, state.room),
+        answer: Written::Count(tally.written),
+        state: keep(&rest[at..], tally, taken, state.room),
     }
 }
 
 // A piece is fed behind what is pending: their seam tells whether anything is settled yet.
 fn join(seam: &[u8], state: Decoder, piece: &[u8], out: &mut [u8], list: &mut [u32]) -> Fed
-    requires { ⌜ (admitSays state (length (now piece)) (length (now list)) ≡ 0 ∷ []) × (now seam ≡ four (left state) (now piece)) ⌝ }
+    requires { ⌜ (admitSays state (length (now piece)) (length (now list)) ≡ 0 ∷ []) × (now seam ≡ steps.seamed state (now piece)) ⌝ }
     ensures { λ r. ⌜ steps.Answers state (state .taken + length (now (piece .entry))) (fed state (now (piece .entry)) (now (list .entry)))
         (now (out .entry)) (now (list .entry)) (now (out .exit)) (now (list .exit)) r ⌝ }
 {
     let taken = state.taken + piece.len();
     let seg = utf8::segment(seam);
     let size = utf8_pending::settled_size(seg);
-    if size == 0 {
+    if size < state.pending {
         return Fed {
             answer: Written::Count(0),
             state: keep(seam, open_tally(state), taken, state.room),
@@ -133,14 +133,27 @@ fn join(seam: &[u8], state: Decoder, piece: &[u8], out: &mut [u8], list: &mut [u
     feed_rest(seg, seam, &piece[from..], state, taken, out, list)
 }
 
+// The seam of what is pending and a piece. Where nothing is pending it is empty, and the piece is read where it lies.
+fn seam_with(state: Decoder, piece: &[u8]) -> Seam
+    ensures { λ r. ⌜ r ≡ steps.seamWith state (now (piece .entry)) ⌝ }
+{
+    if state.pending == 0 {
+        return Seam {
+            bytes: [0; 4],
+            size: 0,
+        };
+    }
+    let held = state.held;
+    utf8_pending::seam_of(held, state.pending, piece)
+}
+
 // A state that may take a piece takes it.
 fn take(state: Decoder, piece: &[u8], out: &mut [u8], list: &mut [u32]) -> Fed
     requires { ⌜ admitSays state (length (now piece)) (length (now list)) ≡ 0 ∷ [] ⌝ }
     ensures { λ r. ⌜ steps.Answers state (state .taken + length (now (piece .entry))) (fed state (now (piece .entry)) (now (list .entry)))
         (now (out .entry)) (now (list .entry)) (now (out .exit)) (now (list .exit)) r ⌝ }
 {
-    let held = state.held;
-    let seam = utf8_pending::seam_of(held, state.pending, piece);
+    let seam = seam_with(state, piece);
     let bytes = seam.bytes;
     let n = seam.size;
     join(&bytes[..n], state, piece, out, list)
@@ -206,11 +219,10 @@ pub fn start(room: usize) -> Started
 pub fn most(n: usize) -> usize
     ensures { λ r. ⌜ r ≡ mostFed n ⌝ }
 {
-    let each = crate::tally::places(First::Damage(1));
     if Decoder::LIMIT < n {
-        return each * (Decoder::LIMIT + 1);
+        return crate::tally::MARK * (Decoder::LIMIT + 1);
     }
-    each * (n + 1)
+    crate::tally::MARK * (n + 1)
 }
 
 // Feeds a piece: everything that is settled is written in repaired form, and the damages among it are entered in the list.

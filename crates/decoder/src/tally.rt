@@ -3,9 +3,11 @@ use terms::Decoder;
 use terms::First;
 ghost use mathlib.Core.Path.{_≡_};
 ghost use Prim.Native.Nat.{ℕ, _+_, _*_, _≤_};
-ghost use mathlib.Core.List.{List};
-ghost use lib.ListN.{length};
+ghost use mathlib.Core.List.{List, _++_};
+ghost use lib.ListN.{length, drop};
+ghost use Rattle.terms.specs.Form.{replacement};
 ghost use Rattle.terms.specs.Limits.{limit, entryWidth};
+ghost use Rattle.utf8.specs.Scalar.{utf8};
 ghost use Rattle.utf8_pending.specs.Tail.{settledSize};
 ghost use Rattle.decoder.specs.Inside.Acting as acting;
 ghost use Rattle.decoder.specs.Inside.Acting.{work, logOf, reached, Fits};
@@ -18,6 +20,9 @@ pub(crate) struct Tally {
     pub written: usize,
 }
 
+// How many places U+FFFD takes.
+pub(crate) const MARK: usize = 3;
+
 // How many places a segment takes in repaired form.
 pub(crate) fn places(seg: First) -> usize
     ensures { λ r. ⌜ r ≡ acting.places seg ⌝ }
@@ -25,17 +30,20 @@ pub(crate) fn places(seg: First) -> usize
     match seg {
         First::Nothing => 0,
         First::Whole(n) => n,
-        First::Damage(_) => 3,
+        First::Damage(_) => MARK,
         First::Begun(_) => 0,
     }
 }
 
-// Bytes in whole segments are written as they are.
-fn pass(run: &[u8], tally: Tally, out: &mut [u8]) -> Tally
+// Bytes in whole segments are written as they are. Where damage is dense most runs are none, and not worth the call.
+pub(crate) fn pass(run: &[u8], tally: Tally, out: &mut [u8]) -> Tally
     requires { ⌜ (tally .written + length (now run) ≤ length (now out)) × (tally .whole + length (now run) ≤ limit) ⌝ }
     ensures { λ r. ⌜ ((list : List ℕ) → work r (now (out .exit)) list
         ≡ reached (now (out .entry)) (acting.passed (now (run .entry)) (logOf (work tally (now (out .entry)) list)))) ⌝ }
 {
+    if run.len() == 0 {
+        return tally;
+    }
     let at = tally.written;
     copy::copy(run, &mut out[at..]);
     Tally {
@@ -60,6 +68,16 @@ fn note(n: usize, tally: Tally, room: usize, list: &mut [u32])
     list[at + 1] = n as u32;
 }
 
+// U+FFFD at the start of an output.
+fn put_mark(out: &mut [u8])
+    requires { ⌜ 3 ≤ length (now out) ⌝ }
+    ensures { λ r. ⌜ now (out .exit) ≡ utf8 .write replacement ++ drop 3 (now (out .entry)) ⌝ }
+{
+    out[0] = 0xEF;
+    out[1] = 0xBF;
+    out[2] = 0xBD;
+}
+
 // U+FFFD is written for a damage of so many bytes, and it is entered and counted.
 fn mend(n: usize, tally: Tally, room: usize, out: &mut [u8], list: &mut [u32]) -> Tally
     requires { ⌜ Fits room 3 n (work tally (now out) (now list)) ⌝ }
@@ -67,13 +85,13 @@ fn mend(n: usize, tally: Tally, room: usize, out: &mut [u8], list: &mut [u32]) -
         ≡ reached (now (out .entry)) (acting.mended room n (logOf (work tally (now (out .entry)) (now (list .entry))))) ⌝ }
 {
     let at = tally.written;
-    copy::copy(b"\xEF\xBF\xBD", &mut out[at..]);
+    put_mark(&mut out[at..]);
     note(n, tally, room, list);
     Tally {
         whole: tally.whole,
         damaged: tally.damaged + n,
         count: tally.count + 1,
-        written: at + 3,
+        written: at + MARK,
     }
 }
 

@@ -1,39 +1,78 @@
-// All that is settled of a text: how far it reaches, how many places it needs, and what it does.
+// All that is settled of a text: how many places it needs, and what it does. Runs of whole segments go at once.
 use crate::tally::Tally;
+use terms::First;
+use utf8_check::Pace;
 ghost use mathlib.Core.Path.{_≡_};
-ghost use Prim.Native.Nat.{_≤_};
+ghost use Prim.Native.Nat.{_+_, _*_, _≤_};
 ghost use lib.ListN.{length};
 ghost use Rattle.theory.specs.Reader.{parts};
+ghost use Rattle.theory.specs.Tally.{total, size};
 ghost use Rattle.terms.specs.Limits.{limit};
+ghost use Rattle.terms.specs.Told.{toldFirst, firstSays};
 ghost use Rattle.utf8.specs.Bytes.{bytes};
-ghost use Rattle.decoder.specs.Inside.Acting.{work, Ready, acted};
-ghost use Rattle.decoder.specs.Inside.Span.{spanOf};
+ghost use Rattle.decoder.specs.Inside.Acting.{work, Ready, acted, need, places, lack};
 
-// How many bytes of a text are settled, and how many places they take in repaired form.
-pub(crate) struct Span {
+// What the settled segments of a text did, and how many bytes they have.
+pub(crate) struct Settled {
+    pub tally: Tally,
     pub size: usize,
-    pub places: usize,
 }
 
-// The span of what is settled of a text.
-pub(crate) fn span_of(text: &[u8]) -> Span
-    requires { ⌜ length (now text) ≤ limit ⌝ }
-    ensures { λ r. ⌜ r ≡ spanOf (now (text .entry)) ⌝ }
+// The segment that stands first in a text: a first byte below 0xC2 tells it by itself, and most damage begins with one.
+fn first_of(text: &[u8]) -> First
+    ensures { λ r. ⌜ toldFirst r ≡ firstSays bytes (now (text .entry)) ⌝ }
 {
-    let mut at = 0;
-    let mut n = 0;
+    if text.len() == 0 {
+        return First::Nothing;
+    }
+    let a = text[0];
+    if a < 0x80 {
+        return First::Whole(1);
+    }
+    if a < 0xC2 {
+        return First::Damage(1);
+    }
+    utf8::segment(text)
+}
+
+// How many places what is settled of a text takes in repaired form.
+fn need_of(text: &[u8]) -> usize
+    requires { ⌜ length (now text) ≤ limit ⌝ }
+    ensures { λ r. ⌜ r ≡ need (parts bytes (now (text .entry)) .done) ⌝ }
+{
+    let mut at: usize = 0;
+    let mut n: usize = 0;
+    let mut pace = Pace::START;
     loop {
+        let run = utf8_check::paced_run(&text[at..], pace);
+        n += run;
+        at += run;
         let seg = utf8::segment(&text[at..]);
         let size = utf8_pending::settled_size(seg);
         if size == 0 {
-            return Span {
-                size: at,
-                places: n,
-            };
+            return n;
         }
         n += crate::tally::places(seg);
         at += size;
+        pace = utf8_check::pace_behind(pace, run);
     }
+}
+
+// How many places a segment and what is settled of a text behind it need, where so many are too few, and 0 where they are enough.
+// Nothing is counted where they are enough for any text of this length.
+pub(crate) fn lacking(seg: First, text: &[u8], most: usize) -> usize
+    requires { ⌜ (places seg ≤ 3 * limit) × (length (now text) ≤ limit) ⌝ }
+    ensures { λ r. ⌜ r ≡ lack (places seg + need (parts bytes (now (text .entry)) .done)) most ⌝ }
+{
+    let first = crate::tally::places(seg);
+    if first + crate::tally::MARK * text.len() <= most {
+        return 0;
+    }
+    let needed = first + need_of(text);
+    if most < needed {
+        return needed;
+    }
+    0
 }
 
 // Each settled segment of a text acts in its turn.
@@ -43,21 +82,27 @@ pub(crate) fn walk(
     room: usize,
     out: &mut [u8],
     list: &mut [u32],
-) -> Tally
+) -> Settled
     requires { ⌜ Ready room (parts bytes (now text) .done) (work tally (now out) (now list)) ⌝ }
-    ensures { λ r. ⌜ work r (now (out .exit)) (now (list .exit))
-        ≡ acted room (parts bytes (now (text .entry)) .done) (work tally (now (out .entry)) (now (list .entry))) ⌝ }
+    ensures { λ r. ⌜ (work (r .tally) (now (out .exit)) (now (list .exit))
+        ≡ acted room (parts bytes (now (text .entry)) .done) (work tally (now (out .entry)) (now (list .entry))))
+        × (r .size ≡ total size (parts bytes (now (text .entry)) .done)) ⌝ }
 {
-    let mut at = 0;
+    let mut at: usize = 0;
     let mut tally = tally;
+    let mut pace = Pace::START;
     loop {
-        let rest = &text[at..];
-        let seg = utf8::segment(rest);
+        let run = utf8_check::paced_run(&text[at..], pace);
+        let end = at + run;
+        tally = crate::tally::pass(&text[at..end], tally, out);
+        let rest = &text[end..];
+        let seg = first_of(rest);
         let size = utf8_pending::settled_size(seg);
         if size == 0 {
-            return tally;
+            return Settled { tally, size: end };
         }
         tally = crate::tally::act(seg, rest, tally, room, out, list);
-        at += size;
+        at = end + size;
+        pace = utf8_check::pace_behind(pace, run);
     }
 }

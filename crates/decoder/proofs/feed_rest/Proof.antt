@@ -9,49 +9,36 @@ use Rattle.terms.proofs.WalkBySegments.{part-is}
 use Rattle.utf8.specs.Bytes.{bytes}
 use Rattle.decoder.specs.Inside.Acting.{need, places, toldOf, work, acted}
 use Rattle.decoder.specs.Inside.Steps.{tallyOf, keeping}
-use Rattle.decoder.specs.declared.walk.Span.{Span}
-use Rattle.decoder.proofs.SpanOfSettled.{span-inside, span-left}
+use Rattle.decoder.proofs.SettledPlaces.{settled-inside, settled-left, lack-some, lack-none}
 use Rattle.decoder.proofs.FeedAnswers.{rests-small, needs-few, seam-ready, rest-ready, behind-short, behind-done}
 use borrow.Author.Needs.{needs}
 use Rattle.decoder.proofs.feed_rest.Statement.{statement}
 use Rattle.decoder.proofs.feed_rest.Tie as tie
 
-span-of-requires : tie.Need-span-of-requires
-span-of-requires c κs =
+lacking-requires : tie.Need-lacking-requires
+lacking-requires c κs =
     let z = c .before .before .before .before in
-    let a = z .args in
-    rests-small (a .state) (a .seg) (a .seam .now) (a .rest .now) (a .list .now) (z .pre)
+    let a = z .args in (
+      omega (arith, needs-few (a .state) (a .seg) (a .seam .now) (a .rest .now) (a .list .now) (z .pre)),
+      rests-small (a .state) (a .seg) (a .seam .now) (a .rest .now) (a .list .now) (z .pre),
+    )
 
-places-requires : tie.Need-places-requires
-places-requires c κs = search needs
-
-abbrev start : tie.After-struct-known → tie.Start
-start c = c .before .before .before .before .before .before .before
-
--- how many places they need
-needed-is : (c : tie.After-struct-known)
-    → let a = start c .args in
-    c .before .places .result + c .before .before .span-of .result .places ≡ places (a .seg) + need (parts bytes (a .rest .now) .done)
-needed-is c = λ i. c .before .places .ensures i + c .before .before .span-of .ensures i .places
-
-add-needed : tie.Need-add-needed
-add-needed c =
-    let z = start c in
-    let a = z .args in
-    omega (arith, needed-is c, needs-few (a .state) (a .seg) (a .seam .now) (a .rest .now) (a .list .now) (z .pre))
+abbrev start : tie.After-lacking → tie.Start
+start c = c .before .before .before .before .before
 
 returns : tie.Need-returns
 returns c =
     let z = start (c .before) in
     let a = z .args in
-    behind-short (a .state) (a .seg) (a .seam .now) (a .rest .now) (a .list .now) (z .pre) (a .taken) (a .out .now) _ (needed-is (c .before)) (c .if1 .taken)
+    let s = lack-some _ _ _ (c .before .lacking .ensures) (c .if1 .taken) in
+    behind-short (a .state) (a .seg) (a .seam .now) (a .rest .now) (a .list .now) (z .pre) (a .taken) (a .out .now) _ (s .0) (s .1)
 
 open-tally-requires : tie.Need-open-tally-requires
 open-tally-requires c κs = search needs
 
--- the output has so many
+-- the output has enough places
 enough : (c : tie.Else1) → let a = start (c .before) .args in places (a .seg) + need (parts bytes (a .rest .now) .done) ≤ length (a .out .now)
-enough c = omega (arith, needed-is (c .before), c .if1 .left)
+enough c = lack-none _ _ _ (c .before .lacking .ensures) (c .if1 .left)
 
 act-requires : tie.Need-act-requires
 act-requires c κs =
@@ -78,28 +65,25 @@ walk-requires c κs =
     (work (t .act .result) (t .act .last .1 .1 .1 .1 .0) (t .act .last .1 .1 .1 .1 .1 .0)) (seam-acts t)
 
 -- how far the text is settled, and what is left behind that
-abbrev asked : tie.After-walk → tie.After-struct-known
-asked c = c .before .before .before .before .before .before .before .before .before .before .before .before
+abbrev asked : tie.After-walk → tie.Start
+asked c = start (c .before .before .before .before .before .before .before .before .before .before .before .before)
 
-inside : (c : tie.After-walk) → asked c .before .before .span-of .result .size ≤ length (start (asked c) .args .rest .now)
-inside c =
-    omega (arith, ap (λ (x : Span). x .size) (asked c .before .before .span-of .ensures), span-inside (start (asked c) .args .rest .now))
+inside : (c : tie.After-walk) → c .walk .result .size ≤ length (asked c .args .rest .now)
+inside c = omega (arith, c .walk .ensures .1, settled-inside (asked c .args .rest .now))
 
 left-is : (c : tie.After-walk)
-    → let rest = start (asked c) .args .rest .now in
-    let n = asked c .before .before .span-of .result .size in
+    → let rest = asked c .args .rest .now in
+    let n = c .walk .result .size in
     take (length rest - n) (drop n rest) ≡ parts bytes rest .left
 left-is c =
-    let rest = start (asked c) .args .rest .now in
-    part-is rest (asked c .before .before .span-of .result .size)
-    ∙ ap (λ (x : Span). drop (x .size) rest) (asked c .before .before .span-of .ensures)
-    ∙ span-left rest
+    let rest = asked c .args .rest .now in
+    part-is rest (c .walk .result .size) ∙ ap (λ (n : ℕ). drop n rest) (c .walk .ensures .1) ∙ settled-left rest
 
 sub-keep : tie.Need-sub-keep
-sub-keep c = inside (c .before .before .before .before)
+sub-keep c = inside (c .before .before .before .before .before)
 
 part-keep-start : tie.Need-part-keep-start
-part-keep-start c = inside (c .before .before .before .before)
+part-keep-start c = inside (c .before .before .before .before .before)
 
 part-keep-end : tie.Need-part-keep-end
 part-keep-end c = search needs
@@ -115,23 +99,21 @@ same-length-2 c = search needs
 
 returns-2 : tie.Need-returns-2
 returns-2 c =
-    let k = c .before .before .before .before .before .before in
+    let k = c .before .before .before .before .before .before .before in
     let t = k .before .before .before .before .before .before .before in
     let e = t .before .before .before .before in
     let z = start (e .before) in
     let a = z .args in
     behind-done (a .state) (a .seg) (a .seam .now) (a .rest .now) (a .list .now) (z .pre) (a .taken) (a .out .now) (enough e)
     (work (t .act .result) (t .act .last .1 .1 .1 .1 .0) (t .act .last .1 .1 .1 .1 .1 .0)) (seam-acts t)
-    (work (k .walk .result) (k .walk .last .1 .1 .1 .0) (k .walk .last .1 .1 .1 .1 .0)) (k .walk .ensures)
-    (c .keep .result) (c .keep .ensures ∙ ap (λ (xs : List ℕ). keeping xs (k .walk .result) (a .taken) (a .state .room)) (left-is k))
+    (work (k .walk .result .tally) (k .walk .last .1 .1 .1 .0) (k .walk .last .1 .1 .1 .1 .0)) (k .walk .ensures .0)
+    (c .keep .result) (c .keep .ensures ∙ ap (λ (xs : List ℕ). keeping xs (k .walk .result .tally) (a .taken) (a .state .room)) (left-is k))
 
 pub feed-rest-spec : {M : Type 1} → statement M
 feed-rest-spec =
     tie.close
     (tie.spec
-    span-of-requires
-    places-requires
-    add-needed
+    lacking-requires
     returns
     open-tally-requires
     act-requires

@@ -12,7 +12,7 @@ use Rattle.utf8_pending.specs.Tail.{firstSettled}
 use Rattle.utf8_pending.proofs.SettledFirst.{told-size}
 use Rattle.decoder.specs.Inside.Steps.{Rests, behind, Answers}
 use Rattle.decoder.proofs.FeedAnswers.{answers-still}
-use Rattle.decoder.proofs.SeamSettled.{join-within, join-none, join-over, join-inside, join-behind, join-rests}
+use Rattle.decoder.proofs.SeamSettled.{join-within, join-none, join-inside, join-behind, join-rests}
 use borrow.Author.Needs.{needs}
 use Rattle.decoder.proofs.join.Statement.{statement}
 use Rattle.decoder.proofs.join.Tie as tie
@@ -25,7 +25,7 @@ add-taken : tie.Need-add-taken
 add-taken c =
     let z = c .before .before .before .before .before in
     let a = z .args in
-    omega (arith, join-within (a .state) (a .piece .now) (a .list .now) (a .seam .now) (z .pre .0) (z .pre .1))
+    omega (arith, join-within (a .state) (a .piece .now) (a .list .now) (a .seam .now) (z .pre .0) (z .pre .1) (three z))
 
 segment-requires : tie.Need-segment-requires
 segment-requires c κs = search needs
@@ -50,44 +50,44 @@ size-is c =
 returns : tie.Need-returns
 returns c =
     let i = c .before .before in
-    let z = i .before .before .before .before .before .before .before .before in
+    let t = i .before .before in
+    let z = t .before .before .before .before .before .before .before in
     let a = z .args in
     answers-still (a .state) (a .state .taken + length (a .piece .now)) (a .piece .now) (a .out .now) (a .list .now) (a .seam .now) (c .keep .result)
-    (join-none (a .state) (a .piece .now) (a .list .now) (a .seam .now) (z .pre .0) (z .pre .1) (sym (size-is (i .before)) ∙ i .if1 .taken))
+    (join-none (a .state) (a .piece .now) (a .list .now) (a .seam .now) (z .pre .0) (z .pre .1) (three z) (omega (arith, size-is t, i .if1 .taken)))
     (rw (c .before .open-tally .ensures) at (c .keep .ensures))
-
-some : (c : tie.Else1) → total size (firstSettled (c .before .before .before .before .before .before .before .before .args .seam .now)) ≡ 0 → ⊥
-some c n = c .if1 .left (size-is (c .before) ∙ n)
 
 -- the segment reaches over what is pending, and ends in the piece
 over : (c : tie.Else1)
-    → let z = c .before .before .before .before .before .before .before .before in
-    let n = c .before .settled-size .result in
-    (z .args .state .pending ≤ n) × (n - z .args .state .pending ≤ length (z .args .piece .now))
-over c =
-    let z = c .before .before .before .before .before .before .before .before in
+    → let t = c .before .before in
+    let a = t .before .before .before .before .before .before .before .args in
+    a .state .pending ≤ total size (firstSettled (a .seam .now))
+over c = omega (arith, size-is (c .before .before), c .if1 .left)
+
+inside : (c : tie.Else1)
+    → let t = c .before .before in
+    let a = t .before .before .before .before .before .before .before .args in
+    t .settled-size .result - a .state .pending ≤ length (a .piece .now)
+inside c =
+    let t = c .before .before in
+    let z = t .before .before .before .before .before .before .before in
     let a = z .args in
-    rw (size-is (c .before)) (
-      join-over (a .state) (a .piece .now) (a .list .now) (a .seam .now) (z .pre .0) (z .pre .1) (three z) (some c),
-      join-inside (a .state) (a .piece .now) (a .list .now) (a .seam .now) (z .pre .0) (z .pre .1) (three z) (some c),
-    )
+    omega (arith, size-is t, join-inside (a .state) (a .piece .now) (a .list .now) (a .seam .now) (z .pre .0) (z .pre .1) (three z) (over c))
 
 -- the text behind it
 rest-is : (c : tie.Else1)
-    → let z = c .before .before .before .before .before .before .before .before in
-    let from = c .before .settled-size .result - z .args .state .pending in
-    let piece = z .args .piece .now in
-    take (length piece - from) (drop from piece) ≡ drop (total size (firstSettled (z .args .seam .now)) - z .args .state .pending) piece
-rest-is c = rw (part-is, size-is (c .before))
-
-sub-from : tie.Need-sub-from
-sub-from c = omega (arith, over (c .before))
+    → let t = c .before .before in
+    let a = t .before .before .before .before .before .before .before .args in
+    let from = t .settled-size .result - a .state .pending in
+    let piece = a .piece .now in
+    take (length piece - from) (drop from piece) ≡ drop (total size (firstSettled (a .seam .now)) - a .state .pending) piece
+rest-is c = rw (part-is, size-is (c .before .before))
 
 sub-feed-rest : tie.Need-sub-feed-rest
-sub-feed-rest c = omega (arith, over (c .before))
+sub-feed-rest c = inside (c .before)
 
 part-feed-rest-start : tie.Need-part-feed-rest-start
-part-feed-rest-start c = omega (arith, over (c .before))
+part-feed-rest-start c = inside (c .before)
 
 part-feed-rest-end : tie.Need-part-feed-rest-end
 part-feed-rest-end c = search needs
@@ -95,11 +95,11 @@ part-feed-rest-end c = search needs
 feed-rest-requires : tie.Need-feed-rest-requires
 feed-rest-requires c κs =
     let e = c .before .before .before .before in
-    let s = e .before .before in
+    let s = e .before .before .before in
     let z = s .before .before .before .before .before .before in
     let a = z .args in
     subst (λ (rest : List ℕ). Rests (a .state) (s .segment .result) (a .seam .now) rest (a .list .now)) (sym (rest-is e))
-    (join-rests (a .state) (a .piece .now) (a .list .now) (a .seam .now) (z .pre .0) (z .pre .1) (three z) (some e)
+    (join-rests (a .state) (a .piece .now) (a .list .now) (a .seam .now) (z .pre .0) (z .pre .1) (three z) (over e)
     (s .segment .result) (s .segment .ensures))
 
 same-length : tie.Need-same-length
@@ -112,13 +112,13 @@ returns-2 : tie.Need-returns-2
 returns-2 c =
     let f = c .before .before .before .before in
     let e = f .before .before .before .before .before in
-    let z = e .before .before .before .before .before .before .before .before in
+    let z = e .before .before .before .before .before .before .before .before .before in
     let a = z .args in
     let taken = a .state .taken + length (a .piece .now) in
     let out′ = f .feed-rest .last .1 .1 .1 .1 .1 .0 in
     let list′ = f .feed-rest .last .1 .1 .1 .1 .1 .1 .0 in
     subst (λ (s : State Log). Answers (a .state) taken s (a .out .now) (a .list .now) out′ list′ (f .feed-rest .result))
-    (sym (join-behind (a .state) (a .piece .now) (a .list .now) (a .seam .now) (z .pre .0) (z .pre .1) (three z) (some e)))
+    (sym (join-behind (a .state) (a .piece .now) (a .list .now) (a .seam .now) (z .pre .0) (z .pre .1) (three z) (over e)))
     (subst (λ (rest : List ℕ). Answers (a .state) taken (behind (a .state) (a .seam .now) rest (a .list .now))
     (a .out .now) (a .list .now) out′ list′ (f .feed-rest .result)) (rest-is e) (f .feed-rest .ensures))
 
@@ -132,7 +132,6 @@ join-spec =
     open-tally-requires
     keep-requires
     returns
-    sub-from
     sub-feed-rest
     part-feed-rest-start
     part-feed-rest-end

@@ -6,9 +6,6 @@ use borrow.Author.Needs.{needs}
 use Rattle.decoder.proofs.most.Statement.{statement}
 use Rattle.decoder.proofs.most.Tie as tie
 
-places-requires : tie.Need-places-requires
-places-requires c κs = search needs
-
 add-result : tie.Need-add-result
 add-result c = search needs
 
@@ -16,16 +13,16 @@ mul-result : tie.Need-mul-result
 mul-result c = search needs
 
 returns : tie.Need-returns
-returns c = rw (c .before .places .ensures, lt-ltb limit (c .before .before .args .n) (c .if1 .taken))
+returns c = rw (lt-ltb limit (c .before .args .n) (c .if1 .taken))
 
 add-result-2 : tie.Need-add-result-2
 add-result-2 c = search needs
 
 mul-result-2 : tie.Need-mul-result-2
-mul-result-2 c = rw (c .before .places .ensures) (omega (arith, c .if1 .left))
+mul-result-2 c = search needs
 
 returns-2 : tie.Need-returns-2
-returns-2 c = rw (c .before .places .ensures, le-ltb limit (c .before .before .args .n) (c .if1 .left)) (omega arith)
+returns-2 c = rw (le-ltb limit (c .before .args .n) (c .if1 .left)) (omega arith)
 
 pub most-spec : {M : Type 1} → statement M
-most-spec = tie.close (tie.spec places-requires add-result mul-result returns add-result-2 mul-result-2 returns-2)
+most-spec = tie.close (tie.spec add-result mul-result returns add-result-2 mul-result-2 returns-2)

@@ -3,6 +3,8 @@ use mathlib.Core.Path.{_≡_}
 use Prim.Native.Nat.{ℕ, _+_, _*_, _≤_}
 use mathlib.Core.List.{List, [], _∷_, _++_, foldl}
 use lib.ListN.{length, take, drop}
+use lib.Dec.{ltb}
+use mathlib.Core.Bool.{cond}
 use Rattle.theory.specs.Reader.{Segment}
 use Rattle.theory.specs.Table.{Kind, whole, damage}
 use Rattle.theory.specs.Tally.{written, total, size, store, Log}
@@ -20,6 +22,10 @@ use Rattle.decoder.specs.declared.tally.Tally.{Tally}
 -- how many places they take in repaired form
 abbrev pub need : List (Segment Kind) → ℕ
 need ss = length (written (mend utf8) ss)
+
+-- how many of them are needed, where so many are too few, and 0 where they are enough
+abbrev pub lack : ℕ → ℕ → ℕ
+lack needed most = cond (ltb most needed) needed 0
 
 abbrev pub places : First → ℕ
 places Nothing = 0

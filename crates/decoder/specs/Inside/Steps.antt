@@ -17,9 +17,10 @@ use Rattle.terms.specs.declared.First.{First}
 use Rattle.terms.specs.declared.First.the-variants.{Nothing, Damage}
 use Rattle.utf8.specs.Bytes.{bytes}
 use Rattle.utf8.specs.Pending.{padded}
-use Rattle.utf8_pending.specs.Tail.{firstSettled}
+use Rattle.utf8_pending.specs.Tail.{firstSettled, four, seamOf}
+use Rattle.utf8_pending.specs.declared.Seam.{Seam}
 use Rattle.decoder.specs.declared.tally.Tally.{Tally}
-use Rattle.decoder.specs.State.{act, opened, closed}
+use Rattle.decoder.specs.State.{left, act, opened, closed}
 use Rattle.decoder.specs.declared.Fed.{Fed}
 use Rattle.decoder.specs.declared.checks.Admission.{Admission}
 use Rattle.decoder.specs.declared.checks.Admission.the-variants.{Granted, Refused}
@@ -43,6 +44,13 @@ keeping rest t taken room = record {
   count = t .count;
   room = room;
 }
+
+-- the seam of what is pending and a piece, and as it is handed on: nothing where nothing is pending
+abbrev pub seamed : Decoder → List ℕ → List ℕ
+seamed d piece = cond (eqb (d .pending) 0) [] (four (left d) piece)
+
+abbrev pub seamWith : Decoder → List ℕ → Seam
+seamWith d piece = cond (eqb (d .pending) 0) (record { bytes = 0 ∷ 0 ∷ 0 ∷ 0 ∷ []; size = 0 }) (seamOf (d .held) (d .pending) piece)
 
 -- the segment that a seam begins with, as the reader told of it, and a text behind it, which a state may take
 pub record Rests (d : Decoder) (seg : First) (seam rest list : List ℕ) : Type 0 where

@@ -12,32 +12,29 @@ use borrow.Author.Needs.{needs}
 use Rattle.decoder.proofs.tally.mend.Statement.{statement}
 use Rattle.decoder.proofs.tally.mend.Tie as tie
 
-slice-aggregate-copy : tie.Need-slice-aggregate-copy
-slice-aggregate-copy c = search needs
+sub-put-mark : tie.Need-sub-put-mark
+sub-put-mark c = search needs
 
-sub-copy : tie.Need-sub-copy
-sub-copy c = search needs
+part-put-mark-start : tie.Need-part-put-mark-start
+part-put-mark-start c = search needs
 
-part-copy-start : tie.Need-part-copy-start
-part-copy-start c = search needs
+part-put-mark-end : tie.Need-part-put-mark-end
+part-put-mark-end c = search needs
 
-part-copy-end : tie.Need-part-copy-end
-part-copy-end c = search needs
-
-copy-requires : tie.Need-copy-requires
-copy-requires c κs = search needs
+put-mark-requires : tie.Need-put-mark-requires
+put-mark-requires c κs = let z = c .before .before .before in put-lent (z .args .out .now) (z .args .tally .written) 3 (z .pre .enough)
 
 note-requires : tie.Need-note-requires
 note-requires c κs = search needs
 
-add-t12 : tie.Need-add-t12
-add-t12 c = search needs
+add-t9 : tie.Need-add-t9
+add-t9 c = search needs
 
-add-t17 : tie.Need-add-t17
-add-t17 c = search needs
+add-t14 : tie.Need-add-t14
+add-t14 c = search needs
 
-add-t18 : tie.Need-add-t18
-add-t18 c = search needs
+add-t15 : tie.Need-add-t15
+add-t15 c = search needs
 
 same-length : tie.Need-same-length
 same-length c = search needs
@@ -49,30 +46,24 @@ returns : tie.Need-returns
 returns c =
     let k = c .before .before .before .before in
     let p = k .before .before .before .before in
-    let z = p .before .before .before .before .before in
+    let z = p .before .before .before .before in
     let a = z .args in
     let t = a .tally in
-    let vs = utf8 .write replacement in
-    let ys = p .copy .last .1 .0 in
-    let list′ = k .note .last .1 .1 .1 .0 in
-    let room : 3 ≤ length (lent (a .out .now) (t .written)) = put-lent (a .out .now) (t .written) 3 (z .pre .enough) in
-    let e : ys ≡ vs ++ drop 3 (lent (a .out .now) (t .written)) = copied-whole vs (lent (a .out .now) (t .written)) ys room (p .copy .ensures) in
-    put-reached t (a .out .now) list′ vs ys (z .pre .enough) e (t .whole) (t .damaged + a .n) (t .count + 1)
+    put-reached t (a .out .now) (k .note .last .1 .1 .1 .0) (utf8 .write replacement) (p .put-mark .last .0) (z .pre .enough) (p .put-mark .ensures) (t .whole) (t .damaged + a .n) (t .count + 1)
     ∙ rw (k .note .ensures)
 
 pub mend-spec : {M : Type 1} → statement M
 mend-spec =
     tie.close
     (tie.spec
-    slice-aggregate-copy
-    sub-copy
-    part-copy-start
-    part-copy-end
-    copy-requires
+    sub-put-mark
+    part-put-mark-start
+    part-put-mark-end
+    put-mark-requires
     note-requires
-    add-t12
-    add-t17
-    add-t18
+    add-t9
+    add-t14
+    add-t15
     same-length
     same-length-2
     returns)
