@@ -1,5 +1,5 @@
-//! Texts around the edges of blocks: lengths and damage at 0 to 4 from multiples of 128, and damage at every place of some texts, for
-//! smaller blocks.
+//! Texts around the edges of blocks and runs: lengths and damage at 0 to 4 from multiples of 128, damage at every place of some texts, for
+//! smaller blocks, and in pieces cuts at 0 to 4 from the edges of both.
 use crate::common::Random;
 use crate::conversions;
 use crate::pieces::{build_course, repair_course, Course};
@@ -117,6 +117,37 @@ pub fn all(run: &mut Run) {
                 damaged(run, &clean, &places);
             }
             units(run, length, &places);
+        }
+    }
+}
+
+/// How many bytes a block takes, of any size; behind the first bytes of a text it looks at three more.
+const BLOCKS: [usize; 10] = [16, 19, 32, 35, 64, 67, 128, 131, 256, 259];
+
+/// A run, damage, and a second run that is as long as a block or a little shorter.
+fn two_runs(run: &mut Run, alphabet: usize, first: usize, damage: &[u8]) -> Vec<u8> {
+    let second = run.random.pick(&BLOCKS) - run.random.below(5);
+    let mut text = exact(&mut run.random, alphabet, first);
+    text.extend(damage);
+    text.extend(exact(&mut run.random, alphabet, second));
+    text
+}
+
+/// Runs between damage, cut at 0 to 4 from where a run ends or begins, and then again a block further on.
+pub fn in_pieces(run: &mut Run) {
+    for round in 0..run.rounds(6 * BLOCKS.len()) {
+        let (alphabet, first) = (round % 6, BLOCKS[round / 6 % BLOCKS.len()]);
+        for damage in DAMAGE {
+            let text = two_runs(run, alphabet, first, damage);
+            for cut in (0..=4).chain(first - 4..=first + damage.len() + 4) {
+                let block = run.random.pick(&BLOCKS) + run.random.below(9);
+                let again = (cut + block - 4).clamp(cut, text.len());
+                let (cuts, room) = ([cut, again, text.len()], cut % 4);
+                let text = &text;
+                let cuts = &cuts;
+                repair_course(run, &Course { text, cuts, room });
+                build_course(run, &Course { text, cuts, room });
+            }
         }
     }
 }

@@ -40,7 +40,7 @@ const USUAL: usize = 1_000_000;
 type Subject = (&'static str, fn(&mut Run));
 
 /// The subjects, the longest first, so that the last to end are short.
-const SUBJECTS: [Subject; 17] = [
+const SUBJECTS: [Subject; 18] = [
     ("limits of lookups and the builder", limits::lookups),
     ("limits of conversions", limits::conversions),
     ("limits of pieces", limits::pieces),
@@ -50,6 +50,7 @@ const SUBJECTS: [Subject; 17] = [
     ("repair in pieces", pieces::repair),
     ("the builder in pieces", pieces::build),
     ("block edges", edges::all),
+    ("runs and cuts near their edges", edges::in_pieces),
     ("states of a decoder", states::decoders),
     ("states of a builder", states::builders),
     ("the watch over a lent state", watch::all),

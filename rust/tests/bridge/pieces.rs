@@ -108,7 +108,9 @@ pub fn repair_course(run: &mut Run, course: &Course) {
         if room > 0 && i % 4 == 0 {
             trial(need, 2 * room - 1);
         }
-        let fed = trial(need + i % 3, 2 * room + i % 2);
+        let enough = 3 * (piece.map_or(0, <[u8]>::len) + 1);
+        let places = [need, enough, need + 1][(i + room) % 3];
+        let fed = trial(places, 2 * room + i % 2);
         output.extend(&fed.output);
         state = fed.state;
         totals = fed.told;
