@@ -11,7 +11,7 @@ use lib.ListN.{length, take, drop, getD, length-drop}
 use lib.Seq.{drop-drop, getD-drop, take-all}
 use Rattle.theory.proofs.Cases.{under}
 use Rattle.utf8_scan.specs.Stands.{stands}
-use Rattle.utf8_scan.specs.Inside.Blocks.{StandsIn, Stand, Below, padded, Good}
+use Rattle.utf8_scan.specs.Inside.Blocks.{StandsIn, Stand, Below, Ascii, padded, Good}
 use Rattle.utf8_scan.proofs.LaneTests.{or-left, or-right}
 
 -- ---- a byte more
@@ -52,32 +52,23 @@ stand-ascii t n h k l =
 drops : (z : List ℕ) (i j m : ℕ) → j + i ≡ m → drop i (drop j z) ≡ drop m z
 drops z i j m e = drop-drop i j z ∙ ap (λ (k : ℕ). drop k z) e
 
+-- from a place to the end, as code hands on a part of a text
+to-end : (text : List ℕ) (a : ℕ) → take (length text - a) (drop a text) ≡ drop a text
+to-end text a = take-all (length text - a) (drop a text) (omega (arith, length-drop a text))
+
 pub good-none : (text : List ℕ) → Good text 0
 good-none text = record { inside = omega arith; stand = λ k l. absurd (omega arith) }
 
-module _ (text : List ℕ) (at from n : ℕ) (g : Good text at) (some : 3 ≤ from) (before : from ≤ at) (inside : from + n ≤ length text) where
-  good-join : Stand (drop (from - 3) text) n → Good text (from + n)
-  good-join h = record {
-    inside = inside;
-    stand = λ k l. under k at (g .stand k) (λ i.
-        let e : drop (k - from) (drop (from - 3) text) ≡ drop (k - 3) text = drops text (k - from) (from - 3) (k - 3) (omega arith) in
-        let p : drop (k - 3) text ≡ drop k (padded text) = drops (padded text) (k - 3) 3 k (omega arith) in
-        subst StandsIn (e ∙ p) (h (k - from) (omega arith)));
-  }
-
-  -- as code hands on a part of the text
-  pub good-part : Stand (take (length text - (from - 3)) (drop (from - 3) text)) n → Good text (from + n)
-  good-part h =
-      good-join (subst (λ (l : List ℕ). Stand l n) (take-all (length text - (from - 3)) (drop (from - 3) text) (omega (arith, length-drop (from - 3) text))) h)
-
--- the last block of a text, over what is left
-pub good-last : (text : List ℕ) (at : ℕ) → Good text at → 19 ≤ length text → length text ≤ at + 16
-    → Stand (take (length text - (length text - 19)) (drop (length text - 19) text)) 16 → Good text (length text)
-good-last text at g l b h =
-    let e : length text - 19 ≡ (length text - 16) - 3 = omega arith in
-    subst (Good text) (omega arith)
-    (good-part text at (length text - 16) 16 g (omega arith) (omega (arith, g .inside)) (omega arith)
-    (subst (λ (k : ℕ). Stand (take (length text - k) (drop k text)) 16) e h))
+-- the n bytes behind the three at a
+pub good-block : (text : List ℕ) (at a n end : ℕ) → Good text at → a + 3 ≤ at → a + 3 + n ≡ end → end ≤ length text
+    → Stand (take (length text - a) (drop a text)) n → Good text end
+good-block text at a n end g before ends inside h = record {
+  inside = inside;
+  stand = λ k l. under k at (g .stand k) (λ i.
+      let e : drop (k - (a + 3)) (drop a text) ≡ drop (k - 3) text = drops text (k - (a + 3)) a (k - 3) (omega arith) in
+      let p : drop (k - 3) text ≡ drop k (padded text) = drops (padded text) (k - 3) 3 k (omega arith) in
+      subst StandsIn (ap (drop (k - (a + 3))) (to-end text a) ∙ e ∙ p) (h (k - (a + 3)) (omega arith)));
+}
 
 -- ---- the first three bytes
 
@@ -100,26 +91,22 @@ below-or t k m h =
     (λ j l. omega (arith, h j l, or-add-and m (getD t k 0), and-le-r m (getD t k 0)))
     (omega (arith, or-add-and m (getD t k 0), and-le-l m (getD t k 0)))
 
-pub below-part : (text : List ℕ) (at n bound : ℕ) → Below text at bound → Below (take (length text - at) (drop at text)) n bound → Below text (at + n) bound
-below-part text at n bound p q k l = under k at (p k) (λ h.
-    let e : getD (take (length text - at) (drop at text)) (k - at) 0 ≡ getD text k 0 =
-    ap (λ (t : List ℕ). getD t (k - at) 0) (take-all (length text - at) (drop at text) (omega (arith, length-drop at text)))
-    ∙ getD-drop at text (k - at) 0
-    ∙ ap (λ (i : ℕ). getD text i 0) (omega arith) in
-    subst (λ (b : ℕ). b < bound) e (q (k - at) (omega arith)))
+-- the n bytes at a, which may overlap what went before
+pub ascii-block : (text : List ℕ) (at a n end : ℕ) → Ascii text at → a ≤ at → a + n ≡ end → end ≤ length text
+    → Below (take (length text - a) (drop a text)) n 0x80 → Ascii text end
+ascii-block text at a n end g before ends inside h = record {
+  inside = inside;
+  below = λ k l. under k at (g .below k) (λ i.
+      let j : a + (k - a) ≡ k = omega arith in
+      let e : getD (take (length text - a) (drop a text)) (k - a) 0 ≡ getD text k 0 = rw (to-end text a, getD-drop a text (k - a) 0, j) in
+      subst (λ (b : ℕ). b < 0x80) e (h (k - a) (omega arith)));
+}
 
-pub good-ascii : (text : List ℕ) (n : ℕ) → n ≤ length text → Below text n 0x80 → Good text n
-good-ascii text n inside h = record { inside = inside; stand = stand-ascii (padded text) n below }
+pub good-ascii : (text : List ℕ) (n : ℕ) → Ascii text n → Good text n
+good-ascii text n g = record { inside = g .inside; stand = stand-ascii (padded text) n below }
   where
     below : Below (padded text) (n + 3) 0x80
     below zero l = omega arith
     below (suc zero) l = omega arith
     below (suc (suc zero)) l = omega arith
-    below (suc (suc (suc k))) l = h k (omega arith)
-
--- the last n bytes of a text, over what is left
-pub below-last : (text : List ℕ) (at n bound : ℕ) → Below text at bound → n ≤ length text → length text - at < n
-    → Below (take (length text - (length text - n)) (drop (length text - n) text)) n bound → Below text (length text) bound
-below-last text at n bound p inside near q =
-    subst (λ (k : ℕ). Below text k bound) (omega arith)
-    (below-part text (length text - n) n bound (λ k l. p k (omega arith)) q)
+    below (suc (suc (suc k))) l = g .below k (omega arith)

@@ -2,11 +2,11 @@
 // arithmetic that a compiler turns into vector instructions.
 ghost use mathlib.Core.Path.{_≡_};
 ghost use mathlib.Core.Bool.{true, _&&_, _||_, cond};
-ghost use Prim.Native.Nat.{ℕ, suc, _-_, _<_, _≤_};
+ghost use Prim.Native.Nat.{ℕ, suc, _+_, _-_, _<_, _≤_};
 ghost use lib.ListN.{length};
 ghost use lib.Dec.{leb};
 ghost use Rattle.utf8_scan.specs.Stands.{isLater, stands, standing};
-ghost use Rattle.utf8_scan.specs.Inside.Blocks.{Stand, Below, Good};
+ghost use Rattle.utf8_scan.specs.Inside.Blocks.{Stand, Below, Ascii, Good};
 
 mod stands;
 
@@ -165,16 +165,15 @@ fn place(e: u8, k: u8) -> u8
     if e < 0x80 { 255 } else { k }
 }
 
-// So many of the 16 bytes behind the first three stand well. There may be more.
-fn right_to(t: &[u8]) -> usize
-    requires { ⌜ 19 ≤ length (now t) ⌝ }
-    ensures { λ r. ⌜ (r ≤ 16) × Stand (now (t .entry)) r ⌝ }
+// So many of the n bytes behind the first three stand well. There may be more.
+fn right_to(t: &[u8], n: usize) -> usize
+    requires { ⌜ (n < 256) × (n + 3 ≤ length (now t)) ⌝ }
+    ensures { λ r. ⌜ (r ≤ n) × Stand (now (t .entry)) r ⌝ }
 {
-    let mut m: u8 = 16;
-    for k in 0..16 {
+    let mut m = n as u8;
+    for k in 0..n {
         let e = lane_four(t[k], t[k + 1], t[k + 2], t[k + 3]);
-        let at = (k % 256) as u8;
-        m = smaller(m, place(e, at));
+        m = smaller(m, place(e, k as u8));
     }
     m as usize
 }
@@ -195,22 +194,62 @@ fn wide_blocks(text: &[u8], from: usize, low: bool) -> usize
     at
 }
 
-// So many bytes of a text stand well, by blocks of 16 from a place up to which they do as far as a bound. There may be more.
-fn slim_blocks(text: &[u8], from: usize, bound: usize) -> usize
-    requires { ⌜ (3 ≤ from) × Good (now text) from ⌝ }
+// So many bytes of a text stand well, by one block of 128 at its end over what is left behind a place up to which they do, for low
+// bytes. There may be more.
+fn wide_last(text: &[u8], at: usize) -> usize
+    requires { ⌜ (3 ≤ at) × Good (now text) at ⌝ }
     ensures { λ r. ⌜ (3 ≤ r) × Good (now (text .entry)) r ⌝ }
 {
+    let n = text.len();
+    if n < 131 {
+        return at;
+    }
+    if 128 <= n - at {
+        return at;
+    }
+    let a = n - 131;
+    if right(&text[a..], true) {
+        return n;
+    }
+    at
+}
+
+// So many bytes of a text stand well, by blocks of a size from a place up to which they do as far as a bound. There may be more.
+fn slim_blocks(text: &[u8], from: usize, bound: usize, size: usize) -> usize
+    requires { ⌜ (0 < size) × (size < 256) × (3 ≤ from) × Good (now text) from ⌝ }
+    ensures { λ r. ⌜ Good (now (text .entry)) r ⌝ }
+{
     let mut at = from;
-    while 16 <= text.len() - at {
+    while size <= text.len() - at {
         if bound <= at {
             return at;
         }
         let a = at - 3;
-        let n = right_to(&text[a..]);
-        if n < 16 {
+        let n = right_to(&text[a..], size);
+        if n < size {
             return at + n;
         }
-        at += 16;
+        at += size;
+    }
+    at
+}
+
+// So many bytes of a text stand well, by one block of a size at its end over what is left behind a place up to which they do.
+// There may be more.
+fn slim_last(text: &[u8], at: usize, size: usize) -> usize
+    requires { ⌜ (size < 256) × (size + 3 ≤ length (now text)) × Good (now text) at ⌝ }
+    ensures { λ r. ⌜ Good (now (text .entry)) r ⌝ }
+{
+    let n = text.len();
+    if at == n {
+        return at;
+    }
+    if size <= n - at {
+        return at;
+    }
+    let a = n - (size + 3);
+    if right_to(&text[a..], size) == size {
+        return n;
     }
     at
 }
@@ -220,127 +259,83 @@ fn wider(text: &[u8], from: usize) -> usize
     requires { ⌜ (3 ≤ from) × Good (now text) from ⌝ }
     ensures { λ r. ⌜ Good (now (text .entry)) r ⌝ }
 {
-    let low = wide_blocks(text, from, true);
-    let near = slim_blocks(text, low, low + 256);
+    let low = wide_last(text, wide_blocks(text, from, true));
+    let near = slim_blocks(text, low, low + 256, 32);
     if near < low + 256 {
         return near;
     }
     let far = wide_blocks(text, near, false);
-    slim_blocks(text, far, text.len())
+    slim_blocks(text, far, text.len(), 32)
 }
 
-// So many bytes of a text of 19 or more stand well, with a last block over what is left. There may be more.
+// So many bytes of a text of 19 or more stand well, with a last block over what is left: smaller blocks where the text is short.
+// There may be more.
 fn shrinking(text: &[u8], from: usize) -> usize
     requires { ⌜ (3 ≤ from) × Good (now text) from × (19 ≤ length (now text)) ⌝ }
     ensures { λ r. ⌜ Good (now (text .entry)) r ⌝ }
 {
-    let n = text.len();
+    if text.len() < 35 {
+        let near = slim_blocks(text, from, text.len(), 16);
+        return slim_last(text, near, 16);
+    }
     let far = wider(text, from);
-    if n - far < 16 {
-        let a = n - 19;
-        if right_to(&text[a..]) == 16 {
-            return n;
-        }
-    }
-    far
+    slim_last(text, far, 32)
 }
 
-// Are the first 64 bytes of a text all below 0x80?
-fn ascii_wide(t: &[u8]) -> bool
-    requires { ⌜ 64 ≤ length (now t) ⌝ }
-    ensures { λ r. ⌜ (r ≡ true → Below (now (t .entry)) 64 0x80) ⌝ }
+// Are the first n bytes of a text all below 0x80?
+fn ascii_first(t: &[u8], n: usize) -> bool
+    requires { ⌜ n ≤ length (now t) ⌝ }
+    ensures { λ r. ⌜ (r ≡ true → Below (now (t .entry)) n 0x80) ⌝ }
 {
     let mut all: u8 = 0;
-    for k in 0..64 {
+    for k in 0..n {
         all |= t[k];
     }
     all < 0x80
 }
 
-// Are the first 16 bytes of a text all below 0x80?
-fn ascii_narrow(t: &[u8]) -> bool
-    requires { ⌜ 16 ≤ length (now t) ⌝ }
-    ensures { λ r. ⌜ (r ≡ true → Below (now (t .entry)) 16 0x80) ⌝ }
+// So many bytes at the start of a text are below 0x80, by blocks of a size from a place up to which they are, and one at the end
+// over what is left. There may be more.
+fn ascii_blocks(text: &[u8], from: usize, size: usize) -> usize
+    requires { ⌜ (0 < size) × (size ≤ length (now text)) × Ascii (now text) from ⌝ }
+    ensures { λ r. ⌜ Ascii (now (text .entry)) r ⌝ }
 {
-    let mut all: u8 = 0;
-    for k in 0..16 {
-        all |= t[k];
-    }
-    all < 0x80
-}
-
-// Are the first 256 bytes of a text all below 0x80?
-fn ascii_vast(t: &[u8]) -> bool
-    requires { ⌜ 256 ≤ length (now t) ⌝ }
-    ensures { λ r. ⌜ (r ≡ true → Below (now (t .entry)) 256 0x80) ⌝ }
-{
-    let mut all: u8 = 0;
-    for k in 0..256 {
-        all |= t[k];
-    }
-    all < 0x80
-}
-
-// So many bytes at the start of a text are below 0x80, by vast blocks. There may be more.
-fn ascii_far(text: &[u8]) -> usize
-    ensures { λ r. ⌜ (r ≤ length (now (text .entry))) × Below (now (text .entry)) r 0x80 ⌝ }
-{
-    let mut at = 0;
-    while 256 <= text.len() - at {
-        if !ascii_vast(&text[at..]) {
+    let n = text.len();
+    let mut at = from;
+    while size <= n - at {
+        if !ascii_first(&text[at..], size) {
             return at;
         }
-        at += 256;
+        at += size;
     }
-    at
-}
-
-// So many bytes at the start of a text are below 0x80, by wide blocks and vast ones behind each of them.
-fn ascii_start(text: &[u8]) -> usize
-    ensures { λ r. ⌜ (r ≤ length (now (text .entry))) × Below (now (text .entry)) r 0x80 ⌝ }
-{
-    let mut at = 0;
-    while 64 <= text.len() - at {
-        if !ascii_wide(&text[at..]) {
-            return at;
-        }
-        at += 64;
-        at += ascii_far(&text[at..]);
-    }
-    at
-}
-
-// So many bytes at the start of a text are below 0x80, also by narrow blocks where no wide one stopped it.
-fn ascii(text: &[u8]) -> usize
-    ensures { λ r. ⌜ (r ≤ length (now (text .entry))) × Below (now (text .entry)) r 0x80 ⌝ }
-{
-    let mut at = ascii_start(text);
-    if 64 <= text.len() - at {
+    if at == n {
         return at;
     }
-    while 16 <= text.len() - at {
-        if !ascii_narrow(&text[at..]) {
-            return at;
-        }
-        at += 16;
+    let a = n - size;
+    if ascii_first(&text[a..], size) {
+        return n;
     }
     at
 }
 
-// So many bytes at the start of a text of 16 or more are below 0x80, with a last block over what is left.
-fn ascii_all(text: &[u8]) -> usize
+// So many bytes at the start of a text of 16 or more are below 0x80, by blocks as large as the text has room for; none of a longer
+// one where the first 64 are not. There may be more.
+fn ascii(text: &[u8]) -> usize
     requires { ⌜ 16 ≤ length (now text) ⌝ }
-    ensures { λ r. ⌜ (r ≤ length (now (text .entry))) × Below (now (text .entry)) r 0x80 ⌝ }
+    ensures { λ r. ⌜ Ascii (now (text .entry)) r ⌝ }
 {
     let n = text.len();
-    let at = ascii(text);
-    if n - at < 16 {
-        let a = n - 16;
-        if ascii_narrow(&text[a..]) {
-            return n;
-        }
+    if n < 64 {
+        return ascii_blocks(text, 0, 16);
     }
-    at
+    if !ascii_first(text, 64) {
+        return 0;
+    }
+    if n < 256 {
+        return ascii_blocks(text, 64, 64);
+    }
+    let far = ascii_blocks(text, 64, 256);
+    ascii_blocks(text, far, 64)
 }
 
 // Do the first three bytes of a text stand well?
@@ -367,9 +362,9 @@ fn sure(text: &[u8]) -> usize
     if n < 19 {
         return 0;
     }
-    let at = ascii_all(text);
+    let at = ascii(text);
     if at == n {
-        return n;
+        return at;
     }
     if 3 <= at {
         return shrinking(text, at);
@@ -407,5 +402,8 @@ pub fn standing(text: &[u8]) -> usize
     ensures { λ r. ⌜ r ≡ standing (now (text .entry)) ⌝ }
 {
     let from = sure(text);
+    if from == text.len() {
+        return from;
+    }
     onward(text, from)
 }

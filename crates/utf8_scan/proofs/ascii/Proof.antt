@@ -1,82 +1,54 @@
--- `ascii` meets its contract: each block goes on where the bytes so far are below 0x80.
-use Prim.Native.Nat.{_-_, _≤_}
-use native.Mathlib.Omega.{arith}
+-- `ascii` meets its contract: blocks of each size go on behind the first one.
 use borrow.Author.Needs.{needs}
+use mathlib.Core.Path.{_≡_}
+use mathlib.Core.Bool.{true}
+use native.Mathlib.Omega.{arith}
 use borrow.Author.Tests.{not-false}
-use lib.ListN.{length, length-take, length-drop}
-use Rattle.utf8_scan.specs.Inside.Blocks.{Below}
-use Rattle.utf8_scan.proofs.StandMore.{below-part}
+use Rattle.utf8_scan.specs.Inside.Blocks.{Ascii}
 use Rattle.utf8_scan.proofs.ascii.Statement.{statement}
 use Rattle.utf8_scan.proofs.ascii.Tie as tie
 
-abbrev Inv-loop : tie.InvT-loop
-Inv-loop text at₀ at = (at ≤ length text) × Below text at 0x80
+ascii-blocks-requires : tie.Need-ascii-blocks-requires
+ascii-blocks-requires c κs = search needs
 
-abbrev μ-loop : tie.MeasureT-loop
-μ-loop text at₀ at = length text - at
+returns : tie.Need-returns
+returns c = search needs
 
-ascii-start-requires : tie.Need-ascii-start-requires Inv-loop μ-loop
-ascii-start-requires c κs = search needs
+ascii-first-requires : tie.Need-ascii-first-requires
+ascii-first-requires c κs = search needs
 
-sub-if1 : tie.Need-sub-if1 Inv-loop μ-loop
-sub-if1 c = search needs
+returns-2 : tie.Need-returns-2
+returns-2 c = search needs
 
-returns : tie.Need-returns Inv-loop μ-loop
-returns c = c .before .ascii-start .ensures
+-- the first block
+first : (c : tie.After-ascii-first) → c .ascii-first .result ≡ true → Ascii (c .before .before .before .args .text .now) 64
+first c e = record { inside = omega arith; below = c .ascii-first .ensures e }
 
-loop-holds : tie.Need-loop-holds Inv-loop μ-loop
-loop-holds c = c .before .ascii-start .ensures
+ascii-blocks-requires-2 : tie.Need-ascii-blocks-requires-2
+ascii-blocks-requires-2 c κs = (omega arith, omega arith, first (c .before .before) (not-false _ (c .before .if2 .left)))
 
-sub-loop : tie.Need-sub-loop Inv-loop μ-loop
-sub-loop c = search needs
+returns-3 : tie.Need-returns-3
+returns-3 c = search needs
 
-sub-ascii-narrow : tie.Need-sub-ascii-narrow Inv-loop μ-loop
-sub-ascii-narrow c = search needs
+ascii-blocks-requires-3 : tie.Need-ascii-blocks-requires-3
+ascii-blocks-requires-3 c κs = (omega arith, omega arith, first (c .before .before) (not-false _ (c .before .if2 .left)))
 
-part-ascii-narrow-start : tie.Need-part-ascii-narrow-start Inv-loop μ-loop
-part-ascii-narrow-start c = search needs
+ascii-blocks-requires-4 : tie.Need-ascii-blocks-requires-4
+ascii-blocks-requires-4 c κs = search needs
 
-part-ascii-narrow-end : tie.Need-part-ascii-narrow-end Inv-loop μ-loop
-part-ascii-narrow-end c = search needs
-
-ascii-narrow-requires : tie.Need-ascii-narrow-requires Inv-loop μ-loop
-ascii-narrow-requires c κs = simp (length-take, length-drop) (omega arith)
-
-returns-2 : tie.Need-returns-2 Inv-loop μ-loop
-returns-2 c = c .before .before .before .before .loop .inv
-
-add-at : tie.Need-add-at Inv-loop μ-loop
-add-at c = search needs
-
-loop-less : tie.Need-loop-less Inv-loop μ-loop
-loop-less c = search needs
-
-loop-again : tie.Need-loop-again Inv-loop μ-loop
-loop-again c =
-    let l = c .before .before .before .before in
-    let text = l .before .before .before .before .args .text .now in
-    (omega arith, below-part text (l .loop .at) 16 0x80 (l .loop .inv .1) (c .before .ascii-narrow .ensures (not-false _ (c .if2 .left))))
-
-returns-3 : tie.Need-returns-3 Inv-loop μ-loop
-returns-3 c = c .before .loop .inv
+returns-4 : tie.Need-returns-4
+returns-4 c = search needs
 
 pub ascii-spec : {M : Type 1} → statement M
 ascii-spec =
     tie.close
     (tie.spec
-    Inv-loop
-    μ-loop
-    ascii-start-requires
-    sub-if1
+    ascii-blocks-requires
     returns
-    loop-holds
-    sub-loop
-    sub-ascii-narrow
-    part-ascii-narrow-start
-    part-ascii-narrow-end
-    ascii-narrow-requires
+    ascii-first-requires
     returns-2
-    add-at
-    loop-less
-    loop-again
-    returns-3)
+    ascii-blocks-requires-2
+    returns-3
+    ascii-blocks-requires-3
+    ascii-blocks-requires-4
+    returns-4)

@@ -7,10 +7,13 @@ use Rattle.utf8_scan.proofs.right_to.Statement.{statement}
 use Rattle.utf8_scan.proofs.right_to.Tie as tie
 
 abbrev Inv-loop : tie.InvT-loop
-Inv-loop t m₀ k₀ m k = (k ≤ 16) × (m ≤ 16) × StandTo t k m
+Inv-loop t n m₀ k₀ m k = (k ≤ n) × (m ≤ n) × StandTo t k m
 
 abbrev μ-loop : tie.MeasureT-loop
-μ-loop t m₀ k₀ m k = 16 - k
+μ-loop t n m₀ k₀ m k = n - k
+
+cast-m : tie.Need-cast-m Inv-loop μ-loop
+cast-m c = search needs
 
 loop-holds : tie.Need-loop-holds Inv-loop μ-loop
 loop-holds c = (omega arith, omega arith, λ j l. absurd (omega arith))
@@ -39,8 +42,8 @@ shared-slice-read-lane-four-4 c = search needs
 lane-four-requires : tie.Need-lane-four-requires Inv-loop μ-loop
 lane-four-requires c κs = search needs
 
-cast-at : tie.Need-cast-at Inv-loop μ-loop
-cast-at c = search needs
+cast-place : tie.Need-cast-place Inv-loop μ-loop
+cast-place c = search needs
 
 place-requires : tie.Need-place-requires Inv-loop μ-loop
 place-requires c κs = search needs
@@ -77,6 +80,7 @@ right-to-spec =
     (tie.spec
     Inv-loop
     μ-loop
+    cast-m
     loop-holds
     shared-slice-read-lane-four
     add-lane-four
@@ -86,7 +90,7 @@ right-to-spec =
     add-lane-four-3
     shared-slice-read-lane-four-4
     lane-four-requires
-    cast-at
+    cast-place
     place-requires
     smaller-requires
     add-k

@@ -4,24 +4,24 @@ use Prim.Native.Nat.{ℕ, _+_, _-_, _≤_}
 use native.Mathlib.Omega.{arith}
 use lib.ListN.{length, length-take, length-drop}
 use Rattle.utf8_scan.specs.Inside.Blocks.{Good}
-use Rattle.utf8_scan.proofs.StandMore.{good-part}
+use Rattle.utf8_scan.proofs.StandMore.{good-block}
 use Rattle.utf8_scan.proofs.slim_blocks.Statement.{statement}
 use Rattle.utf8_scan.proofs.slim_blocks.Tie as tie
 
 abbrev Inv-loop : tie.InvT-loop
-Inv-loop text from bound at₀ at = (3 ≤ at) × Good text at
+Inv-loop text from bound size at₀ at = (3 ≤ at) × Good text at
 
 abbrev μ-loop : tie.MeasureT-loop
-μ-loop text from bound at₀ at = length text - at
+μ-loop text from bound size at₀ at = length text - at
 
 loop-holds : tie.Need-loop-holds Inv-loop μ-loop
-loop-holds c = c .before .pre
+loop-holds c = search needs
 
 sub-loop : tie.Need-sub-loop Inv-loop μ-loop
 sub-loop c = search needs
 
 returns : tie.Need-returns Inv-loop μ-loop
-returns c = c .before .before .loop .inv
+returns c = search needs
 
 sub-a : tie.Need-sub-a Inv-loop μ-loop
 sub-a c = search needs
@@ -43,15 +43,12 @@ add-result c = search needs
 
 -- as far as the block goes
 further : (c : tie.After-right-to Inv-loop μ-loop) (n : ℕ) → n ≤ c .right-to .result
-    → (3 ≤ c .before .before .before .before .loop .at + n)
-    × Good (c .before .before .before .before .before .before .args .text .now) (c .before .before .before .before .loop .at + n)
+    → Good (c .before .before .before .before .before .before .args .text .now) (c .before .before .before .before .loop .at + n)
 further c n h =
     let l = c .before .before .before .before in
-    let at = l .loop .at in (
-      omega (arith, l .loop .inv .0),
-      good-part (l .before .before .args .text .now) at at n (l .loop .inv .1) (l .loop .inv .0) (omega arith) (omega arith)
-          (λ k i. c .right-to .ensures .1 k (omega arith)),
-    )
+    let at = l .loop .at in
+    good-block (l .before .before .args .text .now) at (at - 3) n (at + n) (l .loop .inv .1) (omega arith) (omega arith) (omega arith)
+    (λ k i. c .right-to .ensures .1 k (omega arith))
 
 returns-2 : tie.Need-returns-2 Inv-loop μ-loop
 returns-2 c = further (c .before) (c .before .right-to .result) (omega arith)
@@ -63,10 +60,10 @@ loop-less : tie.Need-loop-less Inv-loop μ-loop
 loop-less c = search needs
 
 loop-again : tie.Need-loop-again Inv-loop μ-loop
-loop-again c = further (c .before) 16 (omega arith)
+loop-again c = (omega arith, further (c .before) (c .before .before .before .before .before .before .before .args .size) (omega arith))
 
 returns-3 : tie.Need-returns-3 Inv-loop μ-loop
-returns-3 c = c .before .loop .inv
+returns-3 c = search needs
 
 pub slim-blocks-spec : {M : Type 1} → statement M
 slim-blocks-spec =

@@ -1,9 +1,7 @@
 -- `sure` meets its contract: bytes below 0x80 stand well, and the blocks go on behind them.
-use mathlib.Core.Path.{subst}
-use native.Mathlib.Omega.{arith}
 use borrow.Author.Needs.{needs}
+use native.Mathlib.Omega.{arith}
 use borrow.Author.Tests.{not-false}
-use Rattle.utf8_scan.specs.Inside.Blocks.{Good}
 use Rattle.utf8_scan.proofs.StandMore.{good-none, good-ascii}
 use Rattle.utf8_scan.proofs.sure.Statement.{statement}
 use Rattle.utf8_scan.proofs.sure.Tie as tie
@@ -11,18 +9,14 @@ use Rattle.utf8_scan.proofs.sure.Tie as tie
 returns : tie.Need-returns
 returns c = good-none _
 
-ascii-all-requires : tie.Need-ascii-all-requires
-ascii-all-requires c κs = search needs
-
--- as far as no byte is 0x80 or more
-ascii-good : (c : tie.After-ascii-all) → Good (c .before .before .before .args .text .now) (c .ascii-all .result)
-ascii-good c = good-ascii _ _ (c .ascii-all .ensures .0) (c .ascii-all .ensures .1)
+ascii-requires : tie.Need-ascii-requires
+ascii-requires c κs = search needs
 
 returns-2 : tie.Need-returns-2
-returns-2 c = subst (Good _) (c .if2 .taken) (ascii-good (c .before))
+returns-2 c = good-ascii _ _ (c .before .ascii .ensures)
 
 shrinking-requires : tie.Need-shrinking-requires
-shrinking-requires c κs = (c .if3 .taken, ascii-good (c .before .before), c .before .before .before .if1 .left)
+shrinking-requires c κs = (c .if3 .taken, good-ascii _ _ (c .before .before .ascii .ensures), c .before .before .before .if1 .left)
 
 returns-3 : tie.Need-returns-3
 returns-3 c = search needs
@@ -44,7 +38,7 @@ sure-spec =
     tie.close
     (tie.spec
     returns
-    ascii-all-requires
+    ascii-requires
     returns-2
     shrinking-requires
     returns-3

@@ -1,11 +1,11 @@
 -- `wide_blocks` meets its contract: each block goes on where the text stood well so far.
 use borrow.Author.Needs.{needs}
-use Prim.Native.Nat.{_-_, _≤_}
+use Prim.Native.Nat.{_+_, _-_, _≤_}
 use native.Mathlib.Omega.{arith}
 use borrow.Author.Tests.{not-false}
 use lib.ListN.{length, length-take, length-drop}
 use Rattle.utf8_scan.specs.Inside.Blocks.{Good}
-use Rattle.utf8_scan.proofs.StandMore.{good-part}
+use Rattle.utf8_scan.proofs.StandMore.{good-block}
 use Rattle.utf8_scan.proofs.wide_blocks.Statement.{statement}
 use Rattle.utf8_scan.proofs.wide_blocks.Tie as tie
 
@@ -50,7 +50,7 @@ loop-again c =
     let l = c .before .before .before .before in
     let n = l .loop .at in (
       omega arith,
-      good-part (l .before .before .args .text .now) n n 128 (l .loop .inv .1) (l .loop .inv .0) (omega arith) (omega arith)
+      good-block (l .before .before .args .text .now) n (n - 3) 128 (n + 128) (l .loop .inv .1) (omega arith) (omega arith) (omega arith)
           (c .before .right .ensures (not-false _ (c .if1 .left))),
     )
 

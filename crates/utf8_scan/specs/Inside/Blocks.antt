@@ -18,6 +18,11 @@ Stand z n = (k : ℕ) → k < n → StandsIn (drop k z)
 abbrev pub Below : List ℕ → ℕ → ℕ → Type 0
 Below t n bound = (k : ℕ) → k < n → getD t k 0 < bound
 
+-- a text's first n bytes are below 0x80
+pub record Ascii (text : List ℕ) (n : ℕ) : Type 0 where
+  pub inside : n ≤ length text
+  pub below : Below text n 0x80
+
 -- a text behind three bytes that ask for nothing
 abbrev pub padded : List ℕ → List ℕ
 padded text = 0 ∷ 0 ∷ 0 ∷ text

@@ -1,18 +1,18 @@
--- `ascii_wide` meets its contract: no byte so far is larger than the bits together.
+-- `ascii_first` meets its contract: no byte so far is larger than the bits together.
+use borrow.Author.Needs.{needs}
 use Prim.Native.Nat.{suc, _-_, _≤_}
 use native.Mathlib.Omega.{arith}
-use borrow.Author.Needs.{needs}
 use borrow.Author.Tests.{ltb-true}
 use Rattle.utf8_scan.specs.Inside.Blocks.{Below}
 use Rattle.utf8_scan.proofs.StandMore.{below-or, below-up}
-use Rattle.utf8_scan.proofs.ascii_wide.Statement.{statement}
-use Rattle.utf8_scan.proofs.ascii_wide.Tie as tie
+use Rattle.utf8_scan.proofs.ascii_first.Statement.{statement}
+use Rattle.utf8_scan.proofs.ascii_first.Tie as tie
 
 abbrev Inv-loop : tie.InvT-loop
-Inv-loop t all₀ k₀ all k = (k ≤ 64) × Below t k (suc all)
+Inv-loop t n all₀ k₀ all k = (k ≤ n) × Below t k (suc all)
 
 abbrev μ-loop : tie.MeasureT-loop
-μ-loop t all₀ k₀ all k = 64 - k
+μ-loop t n all₀ k₀ all k = n - k
 
 loop-holds : tie.Need-loop-holds Inv-loop μ-loop
 loop-holds c = (omega arith, λ k l. absurd (omega arith))
@@ -34,17 +34,9 @@ loop-again c =
 returns : tie.Need-returns Inv-loop μ-loop
 returns c = λ e k l.
     let s = c .before .before in
-    below-up (s .args .t .now) 64 (c .before .loop .all) 0x80 (λ j i. c .before .loop .inv .1 j (omega arith)) (ltb-true _ _ e) k l
+    below-up (s .args .t .now) (s .args .n) (c .before .loop .all) 0x80 (λ j i. c .before .loop .inv .1 j (omega arith)) (ltb-true _ _ e) k l
 
-pub ascii-wide-spec : {M : Type 1} → statement M
-ascii-wide-spec =
+pub ascii-first-spec : {M : Type 1} → statement M
+ascii-first-spec =
     tie.close
-    (tie.spec
-    Inv-loop
-    μ-loop
-    loop-holds
-    shared-slice-read-all
-    add-k
-    loop-less
-    loop-again
-    returns)
+    (tie.spec Inv-loop μ-loop loop-holds shared-slice-read-all add-k loop-less loop-again returns)
