@@ -4,17 +4,15 @@ use Prim.Native.Nat.{ℕ, _+_, _-_, min, _≤_, _<_}
 use native.Mathlib.Decide.{decLe}
 use native.Mathlib.Numerals.{add-one}
 use mathlib.Core.Bool.{true, false, _&&_}
-use mathlib.Core.List.{List, [], _∷_, _++_, append-assoc}
-use lib.ListN.{length, getD, take, drop, length-append, length-take}
-use lib.Seq.{drop-cons, drop-drop, take-all, take-at, drop-at, take-take, take-append-add, length-take-le}
+use mathlib.Core.List.{List, [], _∷_, _++_}
+use lib.ListN.{length, getD, take, drop, length-append, length-take, List·getD-append}
+use lib.Seq.{drop-cons, take-all, take-at, take-take, length-take-le, getD-take, getD-append-add}
 use lib.Dec.{leb, eqb}
 use borrow.Author.Tests.{leb-true, le-leb, lt-leb, eq-eqb, ne-eqb}
 use native.Mathlib.Omega.{arith}
 use Rattle.theory.specs.Reader.{pending}
 use Rattle.theory.proofs.Cases.{both}
 use Rattle.terms.specs.Limits.{mostPending, unheld}
-use Rattle.terms.proofs.WalkBySegments.{part-is}
-use Rattle.terms.proofs.WalkWrites.{lent, back, back-is}
 use Rattle.utf8.specs.Bytes.{bytes}
 use Rattle.utf8.specs.Pending.{zeros, padded}
 use Rattle.utf8_pending.specs.Tail.{isTail, four}
@@ -67,51 +65,38 @@ take-min j s = go (decLe j (length s))
     go (yes h) = let e : min (length s) j ≡ j = omega arith in rw e
     go (no h) = let e : min (length s) j ≡ length s = omega arith in rw (e, take-all (length s) s (omega arith), take-all j s (omega arith))
 
--- what is pending, and then the first bytes of a piece
-module _ (tail piece : List ℕ) (few : length tail ≤ mostPending) (k : ℕ) (k-is : k ≡ min (4 - length tail) (length piece)) where
-  four-is : four tail piece ≡ tail ++ take k piece
-  four-is =
-      let e : 4 ≡ length tail + (4 - length tail) = omega arith in
-      let m : k ≡ min (length piece) (4 - length tail) = omega arith in
-      ap (λ (j : ℕ). take j (tail ++ piece)) e ∙ take-append-add tail piece (4 - length tail) ∙ rw (m, take-min)
+-- ---- a byte of what is pending, and of a piece behind it
 
-  part-long : length (take k piece) ≡ k
-  part-long = length-take-le k piece (omega arith)
+module _ (held piece : List ℕ) (n : ℕ) (three : length held ≡ mostPending) (few : n ≤ mostPending) where
+  long : length (take n held) ≡ n
+  long = length-take-le n held (omega arith)
 
-  pub four-long : length tail + k ≡ length (four tail piece)
-  four-long = sym (ap length four-is ∙ length-append tail (take k piece) ∙ rw part-long)
+  pub joined-held : (at : ℕ) → at < n → getD held at 0 ≡ getD (take n held ++ piece) at 0
+  joined-held at h = sym (List·getD-append (take n held) piece 0 at (omega (arith, long)) ∙ getD-take n held at 0 h)
 
-  pub filled : (out ms ys : List ℕ) → ms ≡ tail ++ drop (length tail) out → ys ≡ take k piece ++ drop (length (take k piece)) (lent ms (length tail))
-      → back ms (length tail) ys ≡ four tail piece ++ drop (length (four tail piece)) out
-  filled out ms ys m y =
-      let n : ℕ = length tail in
-      let f : take n ms ≡ tail = rw m (take-at tail (drop n out) n refl) in
-      let d : drop n ms ≡ drop n out = rw m (drop-at tail (drop n out) n refl) in
-      let r : drop (length (take k piece)) (lent ms n) ≡ drop (n + k) out = rw (part-is, part-long, d, drop-drop) in
-      back-is ms n ys ∙ rw (f, y, r, ← four-long, four-is, append-assoc)
+  pub joined-piece : (at : ℕ) → n ≤ at → getD piece (at - n) 0 ≡ getD (take n held ++ piece) at 0
+  joined-piece at h =
+      let e : at ≡ length (take n held) + (at - n) = omega (arith, long) in
+      sym (ap (λ (i : ℕ). getD (take n held ++ piece) i 0) e ∙ getD-append-add (take n held) piece (at - n) 0)
+
+  -- how many of them are in the seam
+  pub joined-size : n + min (4 - n) (length piece) ≡ length (four (take n held) piece)
+  joined-size = omega (arith, length-take 4 (take n held ++ piece), length-append (take n held) piece, long)
 
 -- ---- bytes in their places, 0 for each unused one
 
-pub padded-is : (run : List ℕ) → length run ≤ mostPending → run ++ drop (length run) unheld ≡ padded run
-padded-is [] h = refl
-padded-is (a ∷ []) h = refl
-padded-is (a ∷ b ∷ []) h = refl
-padded-is (a ∷ b ∷ c ∷ []) h = refl
-padded-is (a ∷ b ∷ c ∷ d ∷ run) h = absurd (omega arith)
+pub three-places : (left : List ℕ) → getD left 0 0 ∷ getD left 1 0 ∷ getD left 2 0 ∷ [] ≡ padded left
+three-places [] = refl
+three-places (a ∷ []) = refl
+three-places (a ∷ b ∷ []) = refl
+three-places (a ∷ b ∷ c ∷ left) = refl
 
-pub padded-take : (left : List ℕ) → padded (take mostPending left) ≡ padded left
-padded-take [] = refl
-padded-take (a ∷ []) = refl
-padded-take (a ∷ b ∷ []) = refl
-padded-take (a ∷ b ∷ c ∷ left) = refl
-
-pub seam-padded : (run : List ℕ) → length run ≤ 4 → run ++ drop (length run) (0 ∷ 0 ∷ 0 ∷ 0 ∷ []) ≡ take 4 (run ++ 0 ∷ 0 ∷ 0 ∷ 0 ∷ [])
-seam-padded [] h = refl
-seam-padded (a ∷ []) h = refl
-seam-padded (a ∷ b ∷ []) h = refl
-seam-padded (a ∷ b ∷ c ∷ []) h = refl
-seam-padded (a ∷ b ∷ c ∷ d ∷ []) h = refl
-seam-padded (a ∷ b ∷ c ∷ d ∷ e ∷ run) h = absurd (omega arith)
+pub four-places : (run : List ℕ) → getD run 0 0 ∷ getD run 1 0 ∷ getD run 2 0 ∷ getD run 3 0 ∷ [] ≡ take 4 (take 4 run ++ 0 ∷ 0 ∷ 0 ∷ 0 ∷ [])
+four-places [] = refl
+four-places (a ∷ []) = refl
+four-places (a ∷ b ∷ []) = refl
+four-places (a ∷ b ∷ c ∷ []) = refl
+four-places (a ∷ b ∷ c ∷ d ∷ run) = refl
 
 -- they are found again, and the unused ones are 0
 pub held-back : (run : List ℕ) → length run ≤ mostPending → take (length run) (padded run) ≡ run

@@ -1,5 +1,4 @@
 -- The bytes that are pending between two pieces: their test, the seam with the next piece, and what of a text is settled first.
-use mathlib.Core.Path.{_≡_}
 use Prim.Native.Nat.{ℕ}
 use mathlib.Core.Bool.{Bool, cond, _&&_}
 use mathlib.Core.List.{List, [], _∷_, _++_}
@@ -39,8 +38,3 @@ seamOf held n piece = record {
   bytes = take 4 (four (take n held) piece ++ 0 ∷ 0 ∷ 0 ∷ 0 ∷ []);
   size = length (four (take n held) piece);
 }
-
--- a run stands at the start of an output, and was counted
-pub record Fills (run out out′ : List ℕ) (n : ℕ) : Type 0 where
-  pub long : n ≡ length run
-  pub output : out′ ≡ run ++ drop (length run) out

@@ -2,11 +2,12 @@
 use terms::Decoder;
 use terms::First;
 ghost use mathlib.Core.Path.{_≡_};
+ghost use mathlib.Core.List.{_++_};
 ghost use Prim.Native.Nat.{min, _≤_};
-ghost use lib.ListN.{length};
+ghost use lib.ListN.{getD, take};
 ghost use Rattle.terms.specs.Limits.{mostPending};
 ghost use Rattle.utf8.specs.Pending.{zeros, padded};
-ghost use Rattle.utf8_pending.specs.Tail.{settledSize, isTail, four, seamOf, Fills};
+ghost use Rattle.utf8_pending.specs.Tail.{settledSize, isTail, seamOf};
 
 // The first four bytes of what is pending and a piece behind it, unused ones 0, and how many there are.
 pub struct Seam {
@@ -62,34 +63,47 @@ fn least(a: usize, b: usize) -> usize
     b
 }
 
-// The first four bytes of what is pending and a piece behind it, or all of them; how many they are.
-fn fill(tail: &[u8], piece: &[u8], out: &mut [u8]) -> usize
-    requires { ⌜ (length (now tail) ≤ mostPending) × (length (now out) ≡ 4) ⌝ }
-    ensures { λ r. ⌜ Fills (four (now (tail .entry)) (now (piece .entry))) (now (out .entry)) (now (out .exit)) r ⌝ }
+// The byte at a place of a text, and 0 behind its end.
+fn byte_at(text: &[u8], at: usize) -> u8
+    ensures { λ r. ⌜ r ≡ getD (now (text .entry)) at 0 ⌝ }
 {
-    copy::copy(tail, out);
-    let n = tail.len();
-    let k = least(4 - n, piece.len());
-    copy::copy(&piece[..k], &mut out[n..]);
-    n + k
+    if at < text.len() {
+        return text[at];
+    }
+    0
 }
 
-// The seam of n pending bytes, or of all three where n is more, and a piece behind them.
+// The byte at a place of n pending bytes and a piece behind them, and 0 behind its end.
+fn joined(held: [u8; Decoder::PENDING], n: usize, piece: &[u8], at: usize) -> u8
+    requires { ⌜ n ≤ mostPending ⌝ }
+    ensures { λ r. ⌜ r ≡ getD (take n held ++ now (piece .entry)) at 0 ⌝ }
+{
+    if at < n {
+        return held[at];
+    }
+    byte_at(piece, at - n)
+}
+
+// The seam of n pending bytes, or of all three where n is more, and a piece behind them. A test for each byte: a copy of so few
+// would be a loop.
 pub fn seam_of(held: [u8; Decoder::PENDING], n: usize, piece: &[u8]) -> Seam
     ensures { λ r. ⌜ r ≡ seamOf held n (now (piece .entry)) ⌝ }
 {
-    let mut bytes = [0u8; 4];
     let k = least(n, Decoder::PENDING);
-    let size = fill(&held[..k], piece, &mut bytes);
-    Seam { bytes, size }
+    Seam {
+        bytes: [
+            joined(held, k, piece, 0),
+            joined(held, k, piece, 1),
+            joined(held, k, piece, 2),
+            joined(held, k, piece, 3),
+        ],
+        size: k + least(4 - k, piece.len()),
+    }
 }
 
 // The first three bytes of what is left, 0 for each one missing.
 pub fn hold(left: &[u8]) -> [u8; Decoder::PENDING]
     ensures { λ r. ⌜ r ≡ padded (now (left .entry)) ⌝ }
 {
-    let mut held = [0u8; Decoder::PENDING];
-    let k = least(left.len(), Decoder::PENDING);
-    copy::copy(&left[..k], &mut held);
-    held
+    [byte_at(left, 0), byte_at(left, 1), byte_at(left, 2)]
 }
