@@ -5,9 +5,13 @@ extern "C" {
     fn moxandril_check(text: *const u8, n: usize) -> u64;
     fn moxandril_repair(text: *const u8, n: usize, out: *mut u8, k: usize) -> u64;
     fn bridge_bytes_to_units(text: *const u8, n: usize, out: *mut u16, k: usize, says: *mut usize, m: usize) -> usize;
+    fn bridge_bytes_to_points(text: *const u8, n: usize, out: *mut u32, k: usize, says: *mut usize, m: usize) -> usize;
     fn bridge_bytes_repair_to_units(text: *const u8, n: usize, out: *mut u16, k: usize, says: *mut usize, m: usize) -> usize;
     fn bridge_units_to_bytes(text: *const u16, n: usize, out: *mut u8, k: usize, says: *mut usize, m: usize) -> usize;
     fn bridge_units_repair_to_bytes(text: *const u16, n: usize, out: *mut u8, k: usize, says: *mut usize, m: usize) -> usize;
+    fn bridge_pieces_start(room: usize, state: *mut usize, k: usize, says: *mut usize, m: usize) -> usize;
+    fn bridge_pieces_feed(state: *mut usize, k: usize, piece: *const u8, n: usize, out: *mut u8, o: usize, list: *mut u32, l: usize, says: *mut usize, m: usize) -> usize;
+    fn bridge_pieces_finish(state: *mut usize, k: usize, out: *mut u8, o: usize, list: *mut u32, l: usize, says: *mut usize, m: usize) -> usize;
     fn bridge_index_feed(state: *mut usize, k: usize, piece: *const u8, n: usize, row: *mut u32, r: usize, says: *mut usize, m: usize) -> usize;
     fn bridge_index_finish(state: *mut usize, k: usize, row: *mut u32, r: usize, says: *mut usize, m: usize) -> usize;
     fn bridge_places_at_unit(text: *const u8, n: usize, offset: usize, says: *mut usize, m: usize) -> usize;
@@ -46,9 +50,30 @@ macro_rules! writers {
 
 writers! {
     to_units: bridge_bytes_to_units, u8 => u16;
+    to_points: bridge_bytes_to_points, u8 => u32;
     repair_to_units: bridge_bytes_repair_to_units, u8 => u16;
     to_bytes: bridge_units_to_bytes, u16 => u8;
     repair_to_bytes: bridge_units_repair_to_bytes, u16 => u8;
+}
+
+/// How many damages the list of a repair in pieces has room for.
+pub const ROOM: usize = 32;
+
+/// A text repaired in pieces of so many bytes, with its finish: how many bytes were written.
+pub fn repair_pieces(text: &[u8], size: usize, out: &mut [u8]) -> usize {
+    let (mut state, mut list, mut says) = ([0usize; 9], [0u32; 2 * ROOM], [0usize; 8]);
+    let (p, l, mut done) = (state.as_mut_ptr(), list.as_mut_ptr(), 0);
+    unsafe { bridge_pieces_start(ROOM, p, 9, says.as_mut_ptr(), 8) };
+    for piece in text.chunks(size) {
+        let (t, n, out) = (piece.as_ptr(), piece.len(), &mut out[done..]);
+        let (o, k, s) = (out.as_mut_ptr(), out.len(), says.as_mut_ptr());
+        unsafe { bridge_pieces_feed(p, 9, t, n, o, k, l, 2 * ROOM, s, 8) };
+        done += says[1];
+    }
+    let out = &mut out[done..];
+    let (o, k, s) = (out.as_mut_ptr(), out.len(), says.as_mut_ptr());
+    unsafe { bridge_pieces_finish(p, 9, o, k, l, 2 * ROOM, s, 8) };
+    done + says[1]
 }
 
 /// How many numbers the index of a text of so many bytes has.

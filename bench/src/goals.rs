@@ -1,11 +1,27 @@
-//! The ratios that are to be reached, by job, peer and text.
+//! What is to be reached: ratios of times by job, peer and text, and instructions of repair in pieces.
 use crate::inputs::*;
-use crate::jobs::{Row, CHECK};
+use crate::jobs::{Row, CHECK, STREAMING};
 
 /// The shortest text that counts as one of 64 bytes: one that was cut at a character.
 const SIXTY_FOUR: usize = 61;
 /// The same for 24 bytes.
 const TWENTY_FOUR: usize = 21;
+
+/// The texts on which repair in pieces is to execute few instructions.
+pub const IN_PIECES: [&str; 6] = [ASCII, CYRILLIC, CJK, EMOJI, DAMAGED, RANDOM];
+/// How many times the instructions of our whole repair its pieces may take.
+pub const OVER_WHOLE: f64 = 1.3;
+/// The most instructions of a piece of one byte.
+pub const ONE_BYTE: f64 = 400.0;
+
+/// Whether pieces of so many bytes take few enough instructions a byte, beside the streaming decoder's and our whole repair's.
+pub fn few_enough(piece: usize, ours: f64, streaming: f64, whole: f64) -> bool {
+    match piece {
+        1 => ours <= ONE_BYTE,
+        1_000.. => ours < streaming && ours <= OVER_WHOLE * whole,
+        _ => ours < streaming,
+    }
+}
 
 /// The least ratio of a row.
 pub fn least(row: &Row) -> Option<f64> {
@@ -28,7 +44,7 @@ fn of_kind(row: &Row) -> Option<f64> {
         ("repair", "std lossy", ASCII | CYRILLIC) => 5.0,
         ("repair", "std lossy", CJK) => 2.5,
         ("repair", "std lossy", DAMAGED) => 1.3,
-        (name, "encoding_rs", ASCII | CYRILLIC) if name.contains(" to ") => 1.0,
+        (name, "encoding_rs", ASCII | CYRILLIC) if name.ends_with("repairing") => 1.0,
         ("index build", "plain loop", RANDOM) => 1.0,
         ("index build", "plain loop", kind) if CLEAN.contains(&kind) => 5.0,
         _ => return None,
@@ -42,7 +58,8 @@ fn anywhere(row: &Row) -> Option<f64> {
         _ if row.bytes < SIXTY_FOUR => None,
         ("repair", "std lossy") => Some(0.8),
         ("repair", "encoding_rs") => Some(0.9),
-        (name, "encoding_rs") if name.contains(" to ") => Some(0.7),
+        (_, STREAMING) if row.job.piece >= Some(1_000) => Some(1.0),
+        (name, "encoding_rs") if name.ends_with("repairing") => Some(0.7),
         _ => None,
     }
 }

@@ -1,6 +1,7 @@
 //! Growth: time per byte at three sizes, and of an indexed lookup at two.
 use crate::inputs::{self, Random};
-use crate::measure::{alone, keep};
+use crate::measure::alone;
+use crate::meter::keep;
 use crate::{calls, peers};
 use std::hint::black_box;
 

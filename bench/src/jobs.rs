@@ -1,16 +1,21 @@
-//! The jobs: ours and a peer's on the same text, first compared, then measured in turn.
-use crate::measure::{keep, pair, Pair};
-use crate::{calls, inputs, peers};
-use std::hint::black_box;
+//! The jobs: what of ours is measured beside which peer, on which texts. One list serves times and instructions.
+use crate::inputs::{self, BROKEN, CLEAN};
+use crate::meter::{Meter, Pair};
+use crate::shelf::{self, Shelf};
+use crate::{cases, words};
 
 /// A job against a peer.
-#[derive(Clone, Copy, Debug)]
+#[derive(Clone, Copy)]
 pub struct Job {
     pub name: &'static str,
     pub peer: &'static str,
     /// only clean texts are compared: damage is refused, or one side would stop at it and the other read on
     pub strict: bool,
-    run: fn(&[u8]) -> Pair,
+    /// how many bytes a piece has, where the text comes in pieces
+    pub piece: Option<usize>,
+    /// counted by the call and not by the byte, as most of the text is not read
+    pub by_call: bool,
+    case: fn(&[u8], &mut Shelf, &mut dyn Meter) -> Pair,
 }
 
 /// What was measured.
@@ -22,24 +27,36 @@ pub struct Row {
 }
 
 impl Row {
-    /// Above 1 ours is faster.
+    /// Above 1 ours is faster, or executes less.
     pub fn ratio(&self) -> f64 {
         self.measured.ratio
     }
 
-    /// Gigabytes of input a second.
+    /// Gigabytes of input a second, where time was measured.
     pub fn speeds(&self) -> (f64, f64) {
         let speed = |seconds: f64| self.bytes as f64 / seconds / 1e9;
         (speed(self.measured.ours), speed(self.measured.peer))
     }
+
+    /// Instructions a byte, or a call, where they were counted.
+    pub fn instructions(&self) -> (f64, f64) {
+        let each = if self.job.by_call { 1 } else { self.bytes } as f64;
+        (self.measured.ours / each, self.measured.peer / each)
+    }
 }
 
-const fn job(name: &'static str, peer: &'static str, run: fn(&[u8]) -> Pair) -> Job {
+const fn job(
+    name: &'static str,
+    peer: &'static str,
+    case: fn(&[u8], &mut Shelf, &mut dyn Meter) -> Pair,
+) -> Job {
     Job {
         name,
         peer,
         strict: false,
-        run,
+        piece: None,
+        by_call: false,
+        case,
     }
 }
 
@@ -50,7 +67,89 @@ const fn strict(job: Job) -> Job {
     }
 }
 
+const fn by_call(job: Job) -> Job {
+    Job {
+        by_call: true,
+        ..job
+    }
+}
+
+/// Repair in pieces of so many bytes beside the streaming decoder.
+const fn streaming<const SIZE: usize>() -> Job {
+    Job {
+        piece: Some(SIZE),
+        ..job(
+            "repair in pieces",
+            STREAMING,
+            cases::pieces_streaming::<SIZE>,
+        )
+    }
+}
+
+/// Repair in pieces of so many bytes beside our repair of the whole text.
+const fn beside_whole<const SIZE: usize>() -> Job {
+    Job {
+        piece: Some(SIZE),
+        ..job(
+            "repair in pieces",
+            "our whole repair",
+            cases::pieces_whole::<SIZE>,
+        )
+    }
+}
+
 pub const CHECK: &str = "strict check";
+pub const STREAMING: &str = "encoding_rs, streaming";
+/// How much of a text is fed byte by byte.
+pub const BYTE_BY_BYTE: usize = 4_096;
+
+pub const JOBS: [Job; 21] = [
+    job(CHECK, "std", cases::check_std),
+    strict(job(CHECK, "simdutf8", cases::check_simdutf8)),
+    job("repair", "std lossy", cases::repair_std),
+    job("repair", "encoding_rs", cases::repair_encoding),
+    streaming::<65_536>(),
+    streaming::<1_000>(),
+    streaming::<64>(),
+    streaming::<1>(),
+    beside_whole::<65_536>(),
+    beside_whole::<1_000>(),
+    beside_whole::<64>(),
+    job(
+        "bytes to units, repairing",
+        "encoding_rs",
+        cases::units_encoding,
+    ),
+    job(
+        "bytes to units, repairing, no place to spare",
+        "encoding_rs",
+        cases::units_exact,
+    ),
+    strict(job("bytes to units, strict", "std", cases::units_std)),
+    strict(job(
+        "bytes to code points, strict",
+        "std",
+        cases::points_std,
+    )),
+    strict(job(
+        "units to bytes, repairing",
+        "encoding_rs",
+        cases::bytes_encoding,
+    )),
+    strict(job("units to bytes, strict", "std", cases::bytes_std)),
+    job("index build", "plain loop", cases::build_loop),
+    strict(job(
+        "index build",
+        "bytecount (code points)",
+        cases::build_bytecount,
+    )),
+    job("plain lookup by unit", "plain loop", cases::plain_loop),
+    by_call(job(
+        "indexed lookup by unit",
+        "plain loop",
+        cases::indexed_loop,
+    )),
+];
 
 /// How much of a text a check reads that stops at the first damage.
 fn read_by_check(text: &[u8]) -> usize {
@@ -60,180 +159,39 @@ fn read_by_check(text: &[u8]) -> usize {
     }
 }
 
-pub const JOBS: [Job; 12] = [
-    job(CHECK, "std", check_std),
-    strict(job(CHECK, "simdutf8", check_simdutf8)),
-    job("repair", "std lossy", repair_std),
-    job("repair", "encoding_rs", repair_encoding),
-    job("bytes to units, repairing", "encoding_rs", units_encoding),
-    strict(job("bytes to units, strict", "std", units_std)),
-    strict(job(
-        "units to bytes, repairing",
-        "encoding_rs",
-        bytes_encoding,
-    )),
-    strict(job("units to bytes, strict", "std", bytes_std)),
-    job("index build", "plain loop", build_loop),
-    strict(job(
-        "index build",
-        "bytecount (code points)",
-        build_bytecount,
-    )),
-    job("plain lookup by unit", "plain loop", plain_loop),
-    job("indexed lookup by unit", "plain loop", indexed_loop),
-];
-
 impl Job {
     /// Its name with the peer's.
     pub fn title(self) -> String {
-        format!("{} against {}", self.name, self.peer)
+        let pieces = self.piece.map(|n| format!(" of {}", words::bytes(n)));
+        format!(
+            "{}{} against {}",
+            self.name,
+            pieces.unwrap_or_default(),
+            self.peer
+        )
     }
 
-    pub fn row(self, kind: &'static str, length: usize) -> Row {
+    /// The kinds of text that it is measured on.
+    pub fn kinds(self) -> impl Iterator<Item = &'static str> {
+        let broken = if self.strict { 0 } else { BROKEN.len() };
+        CLEAN.into_iter().chain(BROKEN.into_iter().take(broken))
+    }
+
+    pub fn row(self, kind: &'static str, length: usize, meter: &mut dyn Meter) -> Row {
         let mut text = inputs::text(kind, length);
         if self.name == CHECK {
             text.truncate(read_by_check(&text));
         }
+        if self.piece == Some(1) {
+            text.truncate(BYTE_BY_BYTE);
+        }
+        let mut pages = shelf::pages(text.len());
+        let mut shelf = Shelf::new(&mut pages);
         Row {
             job: self,
             kind,
             bytes: text.len(),
-            measured: (self.run)(&text),
+            measured: (self.case)(shelf.put(&text), &mut shelf, meter),
         }
     }
-}
-
-fn check_std(text: &[u8]) -> Pair {
-    assert_eq!(calls::check(text) == 0, std::str::from_utf8(text).is_ok());
-    pair(&mut || keep(calls::check(black_box(text))), &mut || {
-        keep(std::str::from_utf8(black_box(text)))
-    })
-}
-
-fn check_simdutf8(text: &[u8]) -> Pair {
-    use simdutf8::basic::from_utf8;
-    assert_eq!(calls::check(text) == 0, from_utf8(text).is_ok());
-    pair(&mut || keep(calls::check(black_box(text))), &mut || {
-        keep(from_utf8(black_box(text)))
-    })
-}
-
-/// On clean text the peer lends its input and copies nothing; ours writes the whole form.
-fn repair_std(text: &[u8]) -> Pair {
-    let mut out = vec![0u8; 3 * text.len()];
-    let n = calls::repair(text, &mut out);
-    assert_eq!(&out[..n], String::from_utf8_lossy(text).as_bytes());
-    pair(
-        &mut || keep(calls::repair(black_box(text), &mut out)),
-        &mut || keep(String::from_utf8_lossy(black_box(text))),
-    )
-}
-
-fn repair_encoding(text: &[u8]) -> Pair {
-    let (mut out, mut theirs) = (vec![0u8; 3 * text.len() + 3], vec![0u8; 3 * text.len() + 3]);
-    let n = calls::repair(text, &mut out);
-    assert_eq!(n, peers::encoding_repair(text, &mut theirs));
-    assert!(out[..n] == theirs[..n]);
-    pair(
-        &mut || keep(calls::repair(black_box(text), &mut out)),
-        &mut || keep(peers::encoding_repair(black_box(text), &mut theirs)),
-    )
-}
-
-fn units_encoding(text: &[u8]) -> Pair {
-    let (mut out, mut theirs) = (vec![0u16; text.len() + 1], vec![0u16; text.len() + 1]);
-    let n = calls::repair_to_units(text, &mut out)[1];
-    assert_eq!(n, peers::encoding_to_units(text, &mut theirs));
-    assert!(out[..n] == theirs[..n]);
-    pair(
-        &mut || keep(calls::repair_to_units(black_box(text), &mut out)),
-        &mut || keep(peers::encoding_to_units(black_box(text), &mut theirs)),
-    )
-}
-
-fn units_std(text: &[u8]) -> Pair {
-    let (mut out, mut theirs) = (vec![0u16; text.len() + 1], vec![0u16; text.len() + 1]);
-    let n = calls::to_units(text, &mut out)[1];
-    assert_eq!(n, peers::std_to_units(text, &mut theirs));
-    assert!(out[..n] == theirs[..n]);
-    pair(
-        &mut || keep(calls::to_units(black_box(text), &mut out)),
-        &mut || keep(peers::std_to_units(black_box(text), &mut theirs)),
-    )
-}
-
-fn as_units(text: &[u8]) -> Vec<u16> {
-    String::from_utf8_lossy(text).encode_utf16().collect()
-}
-
-fn bytes_encoding(text: &[u8]) -> Pair {
-    let units = as_units(text);
-    let (mut out, mut theirs) = (
-        vec![0u8; 3 * units.len() + 1],
-        vec![0u8; 3 * units.len() + 1],
-    );
-    let n = calls::repair_to_bytes(&units, &mut out)[1];
-    assert_eq!(n, peers::encoding_to_bytes(&units, &mut theirs));
-    assert!(out[..n] == theirs[..n]);
-    pair(
-        &mut || keep(calls::repair_to_bytes(black_box(&units), &mut out)),
-        &mut || keep(peers::encoding_to_bytes(black_box(&units), &mut theirs)),
-    )
-}
-
-fn bytes_std(text: &[u8]) -> Pair {
-    let units = as_units(text);
-    let (mut out, mut theirs) = (
-        vec![0u8; 3 * units.len() + 4],
-        vec![0u8; 3 * units.len() + 4],
-    );
-    let n = calls::to_bytes(&units, &mut out)[1];
-    assert_eq!(n, peers::std_to_bytes(&units, &mut theirs));
-    assert!(out[..n] == theirs[..n]);
-    pair(
-        &mut || keep(calls::to_bytes(black_box(&units), &mut out)),
-        &mut || keep(peers::std_to_bytes(black_box(&units), &mut theirs)),
-    )
-}
-
-fn build_loop(text: &[u8]) -> Pair {
-    let mut row = vec![0u32; calls::index_size(text.len())];
-    let [units, _, _] = peers::count(text);
-    assert_eq!(calls::build(text, &mut row)[0], 0);
-    assert_eq!(calls::index_unit(text, &row, units)[..2], [0, text.len()]);
-    pair(
-        &mut || keep(calls::build(black_box(text), &mut row)),
-        &mut || keep(peers::count(black_box(text))),
-    )
-}
-
-fn build_bytecount(text: &[u8]) -> Pair {
-    let mut row = vec![0u32; calls::index_size(text.len())];
-    assert_eq!(peers::count(text)[1], bytecount::num_chars(text));
-    pair(
-        &mut || keep(calls::build(black_box(text), &mut row)),
-        &mut || keep(bytecount::num_chars(black_box(text))),
-    )
-}
-
-/// The unit at which the text ends, so that all of it is counted.
-fn plain_loop(text: &[u8]) -> Pair {
-    let [end, _, _] = peers::count(text);
-    assert_eq!(calls::plain_unit(text, end)[..2], [0, text.len()]);
-    assert_eq!(peers::byte_of_unit(text, end), Some(text.len()));
-    pair(
-        &mut || keep(calls::plain_unit(black_box(text), end)),
-        &mut || keep(peers::byte_of_unit(black_box(text), end)),
-    )
-}
-
-fn indexed_loop(text: &[u8]) -> Pair {
-    let mut row = vec![0u32; calls::index_size(text.len())];
-    calls::build(text, &mut row);
-    let [end, _, _] = peers::count(text);
-    assert_eq!(calls::index_unit(text, &row, end)[..2], [0, text.len()]);
-    pair(
-        &mut || keep(calls::index_unit(black_box(text), &row, end)),
-        &mut || keep(peers::byte_of_unit(black_box(text), end)),
-    )
 }

@@ -1,5 +1,5 @@
-//! Measuring: one processor where it can be, two bodies in turn, the median of many samples.
-use std::hint::black_box;
+//! Measuring by time: one processor where it can be, two bodies in turn, the median of many samples.
+use crate::meter::{Meter, Pair};
 use std::time::Instant;
 
 pub const SAMPLES: usize = 31;
@@ -24,11 +24,6 @@ pub fn pin() -> bool {
     }
 }
 
-/// Keeps the compiler from leaving out what makes a value.
-pub fn keep<T>(value: T) {
-    black_box(value);
-}
-
 /// Seconds for so many runs.
 fn seconds(body: &mut dyn FnMut(), runs: usize) -> f64 {
     let start = Instant::now();
@@ -50,32 +45,30 @@ pub fn median(mut times: Vec<f64>) -> f64 {
     times[times.len() / 2]
 }
 
-/// Two bodies measured in turn: the median seconds of one run of each, and the median of the ratios of neighbouring samples, which a
+/// Measures two bodies in turn: the median seconds of one run of each, and the median of the ratios of neighbouring samples, which a
 /// processor that changes its speed disturbs least.
-pub struct Pair {
-    pub ours: f64,
-    pub peer: f64,
-    pub ratio: f64,
-}
+pub struct Clock;
 
-/// Which goes first changes from sample to sample.
-pub fn pair(ours: &mut dyn FnMut(), peer: &mut dyn FnMut()) -> Pair {
-    let runs = (runs_for(ours), runs_for(peer));
-    let (mut a, mut b) = (Vec::new(), Vec::new());
-    for sample in 0..SAMPLES {
-        if sample % 2 == 0 {
-            a.push(seconds(ours, runs.0) / runs.0 as f64);
+impl Meter for Clock {
+    /// Which goes first changes from sample to sample.
+    fn pair(&mut self, ours: &mut dyn FnMut(), peer: &mut dyn FnMut()) -> Pair {
+        let runs = (runs_for(ours), runs_for(peer));
+        let (mut a, mut b) = (Vec::new(), Vec::new());
+        for sample in 0..SAMPLES {
+            if sample % 2 == 0 {
+                a.push(seconds(ours, runs.0) / runs.0 as f64);
+            }
+            b.push(seconds(peer, runs.1) / runs.1 as f64);
+            if sample % 2 == 1 {
+                a.push(seconds(ours, runs.0) / runs.0 as f64);
+            }
         }
-        b.push(seconds(peer, runs.1) / runs.1 as f64);
-        if sample % 2 == 1 {
-            a.push(seconds(ours, runs.0) / runs.0 as f64);
+        let ratios = a.iter().zip(&b).map(|(ours, peer)| peer / ours).collect();
+        Pair {
+            ours: median(a),
+            peer: median(b),
+            ratio: median(ratios),
         }
-    }
-    let ratios = a.iter().zip(&b).map(|(ours, peer)| peer / ours).collect();
-    Pair {
-        ours: median(a),
-        peer: median(b),
-        ratio: median(ratios),
     }
 }
 

@@ -1,8 +1,9 @@
-//! docs/BENCHMARK.md: the tables of one run, and how it was measured.
+//! The part of docs/BENCHMARK.md on times: the tables of one run, and how it was measured.
 use crate::goals::least;
 use crate::growth::PerByte;
 use crate::jobs::{Job, Row, JOBS};
 use crate::measure::SAMPLES;
+use crate::report::{Run, RUNS};
 
 pub struct Findings {
     pub machine: String,
@@ -11,6 +12,7 @@ pub struct Findings {
     pub growth: Vec<PerByte>,
     pub lookups: [f64; 2],
     pub stack: Option<Vec<(&'static str, usize)>>,
+    pub report: Vec<Run>,
 }
 
 const METHOD: &str = "\
@@ -32,7 +34,14 @@ Ours is compiled for plain x86-64 (SSE2).
 - Ours and std's check stop at the first damage, so a damaged text is cut behind it for them. simdutf8 (basic) reads on to the end, \
 and is compared on clean texts alone.
 - A ratio that is to be reached stands for texts of 64 bytes and more; that of the check against std from 24 bytes on.
+- Repair in pieces writes into an output that is always long enough, both ours and that of encoding_rs's streaming decoder. Ours is \
+also compared with our own repair of the whole text. Byte by byte the beginning of a text is fed.
 ";
+
+const REPORT: &str = "\
+The whole run of `report < FILE` on 16 MiB, beside `wc -c < FILE` and `iconv -f utf-8 -t utf-8 < FILE > /dev/null` as a user would time \
+them: from the start of the process to its end. `wc -c` of a file asks for its size and does not read it through. `iconv` would \
+stop at the first damage; on the damaged text it is run with `-c`, which leaves damages out and reads on.";
 
 fn length(bytes: usize) -> String {
     match bytes {
@@ -73,6 +82,21 @@ fn tables(rows: &[Row]) -> String {
     page
 }
 
+fn report(runs: &[Run]) -> String {
+    let mut page = String::from(
+        "| text | report, ms | wc -c, ms | iconv, ms | wc -c / report | iconv / report |\n",
+    );
+    page += "|---|---|---|---|---|---|\n";
+    for Run { kind, seconds } in runs {
+        let [ours, wc, iconv] = seconds.map(|s| s * 1e3);
+        let (by_wc, by_iconv) = (wc / ours, iconv / ours);
+        page += &format!(
+            "| {kind} | {ours:.1} | {wc:.1} | {iconv:.1} | {by_wc:.2} | {by_iconv:.2} |\n"
+        );
+    }
+    page
+}
+
 fn growth(found: &Findings) -> String {
     let mut page = String::from("| call | 64 KiB | 1 MiB | 16 MiB |\n|---|---|---|---|\n");
     for PerByte {
@@ -105,10 +129,12 @@ pub fn page(found: &Findings) -> String {
     };
     format!(
         "# Benchmark\n\nWritten by `tools/bench` on {}; {pinned}, median of {SAMPLES}.\n\n{METHOD}\n\
-         ![ratios at 1 MiB](benchmark.svg)\n\n## Ratios\n{}\n## Growth\n\n{}\n## Memory\n\n\
+         ![ratios at 1 MiB](benchmark.svg)\n\n## Ratios\n{}\n\
+         ## The report\n\n{REPORT} The times are medians of {RUNS} runs.\n\n{}\n## Growth\n\n{}\n## Memory\n\n\
          The library has no heap: it is handed all that it writes to. Its stack, on a damaged text of 1 MiB:\n\n{}",
         found.machine,
         tables(&found.rows),
+        report(&found.report),
         growth(found),
         memory(found)
     )

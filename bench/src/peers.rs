@@ -8,6 +8,17 @@ pub fn encoding_repair(text: &[u8], out: &mut [u8]) -> usize {
     written
 }
 
+/// Repair in pieces of so many bytes by encoding_rs's streaming decoder: how many bytes it wrote.
+pub fn encoding_pieces(text: &[u8], size: usize, out: &mut [u8]) -> usize {
+    let (mut decoder, mut done) = (UTF_8.new_decoder_without_bom_handling(), 0);
+    for piece in text.chunks(size) {
+        let (_, _, written, _) = decoder.decode_to_utf8(piece, &mut out[done..], false);
+        done += written;
+    }
+    let (_, _, written, _) = decoder.decode_to_utf8(&[], &mut out[done..], true);
+    done + written
+}
+
 /// Repair into units by encoding_rs; its output wants one place more than the text has bytes.
 pub fn encoding_to_units(text: &[u8], out: &mut [u16]) -> usize {
     mem::convert_utf8_to_utf16(text, out)
@@ -26,6 +37,19 @@ pub fn std_to_units(text: &[u8], out: &mut [u16]) -> usize {
     let mut n = 0;
     for (place, unit) in out.iter_mut().zip(text.encode_utf16()) {
         *place = unit;
+        n += 1;
+    }
+    n
+}
+
+/// Strict conversion into code points by std.
+pub fn std_to_points(text: &[u8], out: &mut [u32]) -> usize {
+    let Ok(text) = std::str::from_utf8(text) else {
+        return 0;
+    };
+    let mut n = 0;
+    for (place, c) in out.iter_mut().zip(text.chars()) {
+        *place = c as u32;
         n += 1;
     }
     n

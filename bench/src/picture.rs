@@ -47,15 +47,17 @@ fn scale(height: f64) -> String {
 pub fn picture(rows: &[Row]) -> String {
     let (mut bars, mut y) = (String::new(), 24.0);
     for title in JOBS.map(Job::title) {
+        let is_long = |r: &&Row| r.job.title() == title && r.bytes >= 1 << 19;
+        let long: Vec<&Row> = rows.iter().filter(is_long).collect();
+        if long.is_empty() {
+            continue;
+        }
         bars += &format!(
             "<text x=\"8\" y=\"{}\" font-weight=\"bold\">{title}</text>\n",
             y + 14.0
         );
         y += BAR + 4.0;
-        for row in rows
-            .iter()
-            .filter(|r| r.job.title() == title && r.bytes >= 1 << 19)
-        {
+        for row in long {
             bars += &bar(row, y);
             y += BAR;
         }

@@ -1,5 +1,5 @@
 //! How much stack the calls use: each runs on a stack of ours that is filled before and read afterwards.
-use crate::measure::keep;
+use crate::meter::keep;
 use crate::{calls, inputs};
 use std::ffi::{c_int, c_void};
 
