@@ -1,15 +1,15 @@
--- What a text spells: by the kind of its first byte, over its ascii beginning, and how much it is at most.
+-- What a text spells: by the kind of its first byte, and over its ascii beginning.
 use mathlib.Core.Path.{_≡_, refl, sym, ap, _∙_}
 use Prim.Native.Nat.{ℕ, zero, suc, _+_, _-_, _≤_, _<_}
 use native.Mathlib.Numerals.{add-one}
 use mathlib.Core.List.{List, [], _∷_, _++_, append-assoc}
-use lib.ListN.{length, getD, take, drop, length-append, length-drop, drop-of-length-le}
+use lib.ListN.{length, getD, take, drop, length-drop, drop-of-length-le}
 use lib.Seq.{drop-cons, drop-drop, getD-drop, take-suc}
 use borrow.Author.Tests.{lt-ltb, le-ltb, le-leb, lt-leb}
 use native.Mathlib.Omega.{arith}
-use Rattle.theory.proofs.Cases.{under, by-ends, add-swap}
+use Rattle.theory.proofs.Cases.{add-swap}
 use Rattle.terms.proofs.WalkWrites.{Passed}
-use Rattle.convert_from_utf8.specs.Inside.Spell.{wants, unitsOf, two, three, firstHalf, secondHalf, units, spelledFrom, spelled}
+use Rattle.convert_from_utf8.specs.Inside.Spell.{wants, two, three, firstHalf, secondHalf, units, spelledFrom, spelled}
 use Rattle.convert_from_utf8.specs.Inside.Stride.{Short, Ascii}
 
 -- ---- of any text: the equations, after which nothing looks at the recursion
@@ -54,18 +54,6 @@ module _ (a : ℕ) where
   unfolding wants
   wants-three l = rw (le-ltb a 0x80 (omega arith), le-ltb a 0xE0 (omega arith), le-ltb a 0xF0 l)
 
-  pub one-unit : a < 0xF0 → 1 ≡ unitsOf a
-  unfolding unitsOf
-  one-unit h = rw (lt-ltb a 0xF0 h)
-
-  pub two-units : 0xF0 ≤ a → 2 ≡ unitsOf a
-  unfolding unitsOf
-  two-units h = rw (le-ltb a 0xF0 h)
-
-  -- a sequence has no more units than bytes
-  pub units-few : unitsOf a ≤ suc (wants a)
-  units-few = under a 0xF0 (λ h. omega (arith, one-unit h)) (λ h. omega (arith, two-units h, wants-three h))
-
 module _ (a b c d : ℕ) where
   pub one-is : a < 0x80 → (wants a ≡ 0) × (units a b c d ≡ a ∷ [])
   unfolding units
@@ -82,24 +70,6 @@ module _ (a b c d : ℕ) where
   pub four-is : 0xF0 ≤ a → (wants a ≡ 3) × (units a b c d ≡ firstHalf a b c ∷ secondHalf c d ∷ [])
   unfolding units
   four-is l = (wants-three a l, rw (le-ltb a 0x80 (omega arith), le-ltb a 0xE0 (omega arith), le-ltb a 0xF0 l))
-
-  -- how many units a sequence has hangs on its first byte alone
-  pub units-long : length (units a b c d) ≡ unitsOf a
-  units-long =
-      under a 0xF0
-      (λ h. under a 0x80 (λ l. rw (one-is l .1) (one-unit a h)) (λ k.
-      under a 0xE0 (λ l. rw (two-is k l .1) (one-unit a h)) (λ m. rw (three-is m h .1) (one-unit a h))))
-      (λ h. rw (four-is h .1) (two-units a h))
-
--- nor has a text
-pub spelled-few : (xs : List ℕ) → length (spelled xs) ≤ length xs
-spelled-few = by-ends (λ (xs : List ℕ). length (spelled xs) ≤ length xs)
-    (rw spelled-nil (omega arith))
-    (λ x xs ih. under (length xs) (wants x)
-    (λ h. rw (spelled-short x xs h) (omega arith))
-    (λ h.
-    rw (spelled-cons x xs h, length-append)
-    (omega (arith, units-long x (getD xs 0 0) (getD xs 1 0) (getD xs 2 0), units-few x, ih (wants x), length-drop (wants x) xs))))
 
 -- ---- the walk over a text, sequence by sequence
 

@@ -10,7 +10,8 @@ use Rattle.theory.specs.Sequence.{Sequence}
 use Rattle.theory.proofs.Divisions.{cut-nil, cut-cons, by-segments}
 use Rattle.theory.proofs.SequencesAreWhole.{Bounds, by-rows, whole-sequence}
 use Rattle.terms.specs.Form.{converted}
-use Rattle.terms.proofs.ConvertsBack.{AllWhole}
+use Rattle.terms.specs.Strict.{damages}
+use Rattle.terms.proofs.ConvertsBack.{AllWhole, none-whole}
 use Rattle.utf8.specs.Bytes.{next, rows, bytes}
 use Rattle.utf8.specs.Scalar.{number, utf8}
 use Rattle.utf8.proofs.RowsOfBytes.{rows-sound}
@@ -78,3 +79,6 @@ spelled-whole = by-segments bytes (λ (xs : List ℕ). AllWhole (cut bytes xs) �
     ap (λ (ys : List ℕ). spelled (x ∷ ys)) (sym (take-append-drop (bytes x xs .more) xs))
     ∙ whole-spells x xs (v .0) (rest bytes x xs)
     ∙ rw (cut-cons bytes x xs, v .0, ih (v .1)))
+
+pub spelled-undamaged : (text : List ℕ) → damages bytes text ≡ [] → spelled text ≡ converted utf8 utf16 text
+spelled-undamaged text none = spelled-whole text (none-whole 0 (cut bytes text) none)

@@ -3,15 +3,20 @@ use terms::Refusal;
 use terms::Written;
 ghost use mathlib.Core.Path.{_≡_};
 ghost use mathlib.Core.Bool.{true};
-ghost use mathlib.Core.List.{_++_};
+ghost use mathlib.Core.List.{[], _++_};
 ghost use Prim.Native.Nat.{_≤_, _<_, min};
 ghost use lib.ListN.{length, drop, getD};
+ghost use Rattle.terms.specs.Form.{converted};
+ghost use Rattle.terms.specs.Strict.{damages};
 ghost use Rattle.terms.specs.Writing.{Writes, roomed};
-ghost use Rattle.convert_from_utf8.specs.Inside.Spell.{wants, unitsOf, two, three, firstHalf, secondHalf, spelled};
+ghost use Rattle.utf8.specs.Bytes.{bytes};
+ghost use Rattle.utf8.specs.Scalar.{utf8};
+ghost use Rattle.utf16.specs.Scalar.{utf16};
+ghost use Rattle.convert_from_utf8.specs.Inside.Spell.{two, three, firstHalf, secondHalf, spelled};
 ghost use Rattle.convert_from_utf8.specs.Inside.Stride.{Strides, Short, Ascii};
 ghost use Rattle.convert_point.specs.Puts.{Puts};
 
-// How far a stride went: so many bytes are passed over, and so many units written.
+// How far a stride went: so many bytes are passed over, and so many places written.
 pub(crate) struct Reach {
     pub passed: usize,
     pub put: usize,
@@ -279,55 +284,21 @@ pub(crate) fn put(text: &[u8], out: &mut [u16]) -> usize
     done
 }
 
-// How many bytes a first byte wants behind it.
-fn wanted(a: u8) -> usize
-    ensures { λ r. ⌜ r ≡ wants a ⌝ }
+// How many units whole segments have: their bytes tell it, one by one.
+pub(crate) fn need(text: &[u8]) -> usize
+    requires { ⌜ damages bytes (now text) ≡ [] ⌝ }
+    ensures { λ r. ⌜ r ≡ length (converted utf8 utf16 (now (text .entry))) ⌝ }
 {
-    if a < 0x80 {
-        return 0;
-    }
-    if a < 0xE0 {
-        return 1;
-    }
-    if a < 0xF0 {
-        return 2;
-    }
-    3
+    let s = utf8_count::count(text);
+    s.starts + s.fours
 }
 
-// How many units the sequence of a first byte has.
-fn units_of(a: u8) -> usize
-    ensures { λ r. ⌜ r ≡ unitsOf a ⌝ }
-{
-    if a < 0xF0 {
-        return 1;
-    }
-    2
-}
-
-// How many units a text spells.
-fn need(text: &[u8]) -> usize
-    ensures { λ r. ⌜ r ≡ length (spelled (now (text .entry))) ⌝ }
-{
-    let mut at: usize = 0;
-    let mut total: usize = 0;
-    while at < text.len() {
-        let a = text[at];
-        let more = wanted(a);
-        if text.len() - at <= more {
-            return total;
-        }
-        total += units_of(a);
-        at += more + 1;
-    }
-    total
-}
-
-// What a text spells, at the start of an output; refused where that has no room for it.
+// The units of whole segments, at the start of an output; refused where that has no room for them.
 pub(crate) fn write(text: &[u8], out: &mut [u16]) -> Written
+    requires { ⌜ damages bytes (now text) ≡ [] ⌝ }
     ensures { λ r. ⌜ Writes
-        (roomed (length (now (out .entry))) (spelled (now (text .entry))))
-        (spelled (now (text .entry)))
+        (roomed (length (now (out .entry))) (converted utf8 utf16 (now (text .entry))))
+        (converted utf8 utf16 (now (text .entry)))
         (now (out .entry))
         (now (out .exit))
         r ⌝ }

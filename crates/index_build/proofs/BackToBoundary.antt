@@ -12,9 +12,9 @@ use Rattle.theory.specs.Tally.{total}
 use Rattle.theory.proofs.Cases.{split, under}
 use Rattle.theory.proofs.Divisions.{total-append}
 use Rattle.utf8_scan.specs.Stands.{isLater}
-use Rattle.index_count.specs.Counts.{startOf, fourOf, endOf}
-use Rattle.index_count.specs.Inside.Edges.{Edge}
-use Rattle.index_count.proofs.SumsOfSegments.{Laters, laters-none}
+use Rattle.utf8_count.specs.Counts.{startOf, fourOf, endOf}
+use Rattle.utf8_count.specs.Inside.Edges.{Edge}
+use Rattle.utf8_count.proofs.SumsOfSegments.{Laters, laters-none}
 use Rattle.place.specs.Measures.{place}
 use Rattle.place.specs.declared.Place.{Place}
 use Rattle.index_build.specs.Inside.Summed.{summed, boundary, Covers, back}

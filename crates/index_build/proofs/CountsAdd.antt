@@ -6,7 +6,7 @@ use lib.ListN.{length, length-append}
 use native.Mathlib.Omega.{arith}
 use Rattle.theory.specs.Tally.{total}
 use Rattle.theory.proofs.Divisions.{total-append}
-use Rattle.index_count.specs.Counts.{startOf, fourOf, endOf}
+use Rattle.utf8_count.specs.Counts.{startOf, fourOf, endOf}
 use Rattle.place.specs.Measures.{place}
 use Rattle.place.specs.declared.Place.{Place}
 use Rattle.index_build.specs.Inside.Summed.{summed}

@@ -15,8 +15,8 @@ use Rattle.theory.proofs.PlacesFound.{last-here, last-from, bytes-mono}
 use Rattle.terms.proofs.ConvertsBack.{AllWhole}
 use Rattle.utf8_scan.specs.Stands.{isLater}
 use Rattle.place.proofs.ReaderDivides.{reader-division}
-use Rattle.index_count.specs.Inside.Edges.{Edge}
-use Rattle.index_count.proofs.CutsBetweenSegments.{Cut, cut-edge, first-edge}
+use Rattle.utf8_count.specs.Inside.Edges.{Edge}
+use Rattle.utf8_count.proofs.CutsBetweenSegments.{Cut, cut-edge, first-edge}
 use Rattle.place.specs.Measures.{ruler, reader}
 use Rattle.place.specs.declared.Place.{Place}
 use Rattle.place.proofs.MeasuresRise.{measured}

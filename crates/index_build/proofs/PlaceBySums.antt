@@ -4,22 +4,18 @@ use Prim.Native.Nat.{ℕ, zero, _+_, _≤_}
 use mathlib.Core.Bool.{false}
 use mathlib.Core.List.{List, [], _∷_, foldl}
 use lib.ListN.{length}
-use lib.Dec.{eqb}
 use native.Mathlib.Omega.{arith}
 use Rattle.theory.specs.Reader.{Segment, first, rest, cut, parts}
 use Rattle.theory.specs.Table.{Kind, isDamage}
 use Rattle.theory.specs.Tally.{total, size}
-use Rattle.theory.proofs.Cases.{split}
 use Rattle.theory.proofs.Divisions.{cut-nil, cut-cons, cut-size, parts-nil, parts-sure, by-segments}
 use Rattle.terms.specs.Limits.{limit}
 use Rattle.terms.proofs.ConvertsBack.{AllWhole}
 use Rattle.utf8.proofs.RowsOfBytes.{whole-sure}
-use Rattle.index_count.specs.Counts.{startOf, fourOf}
-use Rattle.index_count.proofs.SumsOfSegments.{fourBySize, by-wholes, ends-few}
+use Rattle.utf8_count.specs.Counts.{startOf, fourOf}
+use Rattle.utf8_count.proofs.SumsOfSegments.{by-wholes, ends-few}
 use Rattle.place.specs.Measures.{place, unitsOf, linesOf, ruler, reader}
-use Rattle.place.specs.Walk.{unitsBySize}
 use Rattle.place.specs.declared.Place.{Place}
-use Rattle.place.proofs.MeasuresRise.{units-by-size}
 use Rattle.index_build.specs.Inside.Summed.{summed}
 use Rattle.index_build.specs.Inside.Steps.{Fits}
 
@@ -42,21 +38,11 @@ place-totals p (s ∷ ss) =
     let l : q .lines + total linesOf ss ≡ p .lines + total linesOf (s ∷ ss) = omega arith in
     place-totals q ss ∙ rw (b, u, c, l)
 
--- two units exactly if four bytes
-units-four : (n : ℕ) → unitsBySize n ≡ 1 + fourBySize n
-units-four n = split (eqb n 4) (λ e. rw e) (λ e. rw e)
-
-units-are : (text : List ℕ) → total unitsOf (cut reader text) ≡ total (λ s. 1) (cut reader text) + total (λ s. fourBySize (size s)) (cut reader text)
-units-are = by-segments reader
-    (λ (text : List ℕ). total unitsOf (cut reader text) ≡ total (λ s. 1) (cut reader text) + total (λ s. fourBySize (size s)) (cut reader text))
-    (rw cut-nil)
-    (λ x xs ih. rw (cut-cons reader x xs) (omega (arith, ih, units-by-size x xs, units-four (size (first reader x xs)))))
-
 pub summed-is : (p : Place) (text : List ℕ) → AllWhole (cut reader text) → foldl (ruler .step) p (cut reader text) ≡ summed p text
 summed-is p text w =
     let s = by-wholes text w in
     let u : p .units + total unitsOf (cut reader text) ≡ p .units + total startOf text + total fourOf text
-    = omega (arith, units-are text, s .starts-are, s .fours-are) in
+    = omega (arith, s .units-are) in
     place-totals p (cut reader text) ∙ rw (u, cut-size reader text, ← s .starts-are, ← s .ends-are)
 
 pub summed-fits : (p : Place) (text : List ℕ) → AllWhole (cut reader text) → Fits p → p .bytes + length text ≤ limit → Fits (summed p text)

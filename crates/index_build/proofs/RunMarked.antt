@@ -17,8 +17,8 @@ use Rattle.theory.proofs.Rows.{tab-length, tab-append, written-fixed}
 use Rattle.terms.proofs.ConvertsBack.{AllWhole, none-whole}
 use Rattle.terms.proofs.WalkBySegments.{part-is}
 use Rattle.place.proofs.ReaderDivides.{reader-division}
-use Rattle.index_count.specs.Counts.{startOf, fourOf, endOf}
-use Rattle.index_count.proofs.CountsByBlocks.{start-few, four-few, end-few, total-few}
+use Rattle.utf8_count.specs.Counts.{startOf, fourOf, endOf}
+use Rattle.utf8_count.proofs.CountsByBlocks.{start-few, four-few, end-few, total-few}
 use Rattle.place.specs.Measures.{ruler, reader}
 use Rattle.place.specs.Lookup.{fourCounts}
 use Rattle.place.specs.declared.Place.{Place}

@@ -6,7 +6,7 @@ ghost use Prim.Native.Nat.{_+_, _<_};
 ghost use mathlib.Core.Bool.{false};
 ghost use lib.ListN.{length, getD};
 ghost use Rattle.utf8_scan.specs.Stands.{isLater};
-ghost use Rattle.index_count.specs.Counts.{fourOf};
+ghost use Rattle.utf8_count.specs.Counts.{fourOf};
 ghost use Rattle.index_build.specs.Inside.Steps.{Walked};
 ghost use Rattle.index_build.specs.Inside.Summed.{summed, Adds, boundary, Covers, back};
 ghost use Rattle.index_build.specs.Inside.Runs.{Runs};
@@ -16,7 +16,7 @@ fn add_sums(p: Place, text: &[u8]) -> Place
     requires { ⌜ Adds p (now text) ⌝ }
     ensures { λ r. ⌜ r ≡ summed p (now (text .entry)) ⌝ }
 {
-    let s = index_count::count(text);
+    let s = utf8_count::count(text);
     Place {
         bytes: p.bytes + text.len(),
         units: p.units + s.starts + s.fours,

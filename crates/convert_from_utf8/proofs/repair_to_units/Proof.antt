@@ -40,15 +40,15 @@ returns-2 c =
     repair-done (a .text .now) (converted utf8 utf16 (a .text .now)) (a .out .now) (e .if1 .left) _ _ (roomy t)
     (w .write-units .ensures .count) (w .write-units .ensures .output)
 
-need-requires : tie.Need-need-requires
-need-requires c κs = search needs
+need-units-requires : tie.Need-need-units-requires
+need-units-requires c κs = search needs
 
 returns-3 : tie.Need-returns-3
 returns-3 c =
     let n = c .before in
     let e = n .before .before .before in
     let a = e .before .before .before .args in
-    repair-short (a .text .now) (converted utf8 utf16 (a .text .now)) (a .out .now) (e .if1 .left) (n .need .result) (n .need .ensures) (c .if3 .taken)
+    repair-short (a .text .now) (converted utf8 utf16 (a .text .now)) (a .out .now) (e .if1 .left) (n .need-units .result) (n .need-units .ensures) (c .if3 .taken)
 
 write-units-requires-2 : tie.Need-write-units-requires-2
 write-units-requires-2 c κs = search needs
@@ -62,7 +62,7 @@ returns-4 c =
     let n = w .before .before .before in
     let e = n .before .before .before in
     let a = e .before .before .before .args in
-    repair-done (a .text .now) (converted utf8 utf16 (a .text .now)) (a .out .now) (e .if1 .left) _ _ (omega (arith, n .need .ensures, w .before .before .if3 .left))
+    repair-done (a .text .now) (converted utf8 utf16 (a .text .now)) (a .out .now) (e .if1 .left) _ _ (omega (arith, n .need-units .ensures, w .before .before .if3 .left))
     (w .write-units2 .ensures .count) (w .write-units2 .ensures .output)
 
 pub repair-to-units-spec : {M : Type 1} → statement M
@@ -74,7 +74,7 @@ repair-to-units-spec =
     write-units-requires
     same-length
     returns-2
-    need-requires
+    need-units-requires
     returns-3
     write-units-requires-2
     same-length-2

@@ -1,10 +1,11 @@
--- The check's refusal, or what the writer answers: what the check accepts is within the limit, and has no damage.
+-- The check's refusal, or what the writer answers: what the check accepts has no damage.
 use mathlib.Core.Path.{refl, sym, ap, _∙_}
 use Rattle.terms.specs.Strict.{damaged}
 use Rattle.terms.specs.Told.{toldChecked}
-use Rattle.terms.proofs.AnswersWritten.{strict-refused, accepted-within, strict-roomed}
+use Rattle.terms.proofs.AnswersWritten.{strict-refused, strict-roomed}
 use Rattle.utf8.specs.Scalar.{utf8}
 use Rattle.code_points.specs.Points.{codePoints}
+use Rattle.convert_from_utf8.proofs.AcceptedIsWhole.{accepted-undamaged}
 use borrow.Author.Needs.{needs}
 use Rattle.convert_from_utf8.proofs.to_points.Statement.{statement}
 use Rattle.convert_from_utf8.proofs.to_points.Tie as tie
@@ -15,12 +16,11 @@ check-requires c κs = search needs
 enum-told : tie.Need-enum-told
 enum-told c = search needs
 
-fit-points-requires : tie.Need-fit-points-requires
-fit-points-requires c κs =
+write-requires : tie.Need-write-requires
+write-requires c κs =
     let t = c .before in
     let k = t .before .before in
-    let a = k .before .before .before .args in
-    accepted-within damaged utf8 codePoints (a .text .now) (a .out .now) (ap toldChecked (sym (t .enum-told .given .1)) ∙ k .check .ensures)
+    accepted-undamaged (k .before .before .before .args .text .now) (ap toldChecked (sym (t .enum-told .given .1)) ∙ k .check .ensures)
 
 enum-known-r : tie.Need-enum-known-r
 enum-known-r c = search needs
@@ -35,7 +35,7 @@ returns c =
     let k = t .before .before in
     let a = k .before .before .before .args in
     strict-roomed damaged utf8 codePoints (a .text .now) (a .out .now) (λ e. refl) (ap toldChecked (sym (t .enum-told .given .1)) ∙ k .check .ensures)
-    (r .fit-points .last .1 .0) (r .fit-points .result) (r .fit-points .ensures)
+    (r .write .last .1 .0) (r .write .result) (r .write .ensures)
 
 returns-2 : tie.Need-returns-2
 returns-2 c =
@@ -50,7 +50,7 @@ to-points-spec =
     (tie.spec
     check-requires
     enum-told
-    fit-points-requires
+    write-requires
     enum-known-r
     same-length
     returns

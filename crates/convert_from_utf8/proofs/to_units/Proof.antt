@@ -1,11 +1,11 @@
--- The check's refusal, or what the text spells, as there is no damage.
-use mathlib.Core.Path.{sym, ap, _∙_}
+-- The check's refusal, or what the writer answers: what the check accepts has no damage.
+use mathlib.Core.Path.{refl, sym, ap, _∙_}
 use Rattle.terms.specs.Strict.{damaged}
 use Rattle.terms.specs.Told.{toldChecked}
-use Rattle.terms.proofs.AnswersWritten.{strict-refused}
+use Rattle.terms.proofs.AnswersWritten.{strict-refused, strict-roomed}
 use Rattle.utf8.specs.Scalar.{utf8}
 use Rattle.utf16.specs.Scalar.{utf16}
-use Rattle.convert_from_utf8.proofs.StrictIsSpelled.{strict-spelled}
+use Rattle.convert_from_utf8.proofs.AcceptedIsWhole.{accepted-undamaged}
 use borrow.Author.Needs.{needs}
 use Rattle.convert_from_utf8.proofs.to_units.Statement.{statement}
 use Rattle.convert_from_utf8.proofs.to_units.Tie as tie
@@ -17,7 +17,10 @@ enum-told : tie.Need-enum-told
 enum-told c = search needs
 
 write-requires : tie.Need-write-requires
-write-requires c κs = search needs
+write-requires c κs =
+    let t = c .before in
+    let k = t .before .before in
+    accepted-undamaged (k .before .before .before .args .text .now) (ap toldChecked (sym (t .enum-told .given .1)) ∙ k .check .ensures)
 
 enum-known-r : tie.Need-enum-known-r
 enum-known-r c = search needs
@@ -31,7 +34,8 @@ returns c =
     let t = r .before .before in
     let k = t .before .before in
     let a = k .before .before .before .args in
-    strict-spelled (a .text .now) (a .out .now) (r .write .last .1 .0) (r .write .result) (ap toldChecked (sym (t .enum-told .given .1)) ∙ k .check .ensures) (r .write .ensures)
+    strict-roomed damaged utf8 utf16 (a .text .now) (a .out .now) (λ e. refl) (ap toldChecked (sym (t .enum-told .given .1)) ∙ k .check .ensures)
+    (r .write .last .1 .0) (r .write .result) (r .write .ensures)
 
 returns-2 : tie.Need-returns-2
 returns-2 c =

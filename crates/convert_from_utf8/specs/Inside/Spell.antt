@@ -9,10 +9,6 @@ use lib.Dec.{leb, ltb}
 unfoldable pub wants : ℕ → ℕ
 wants a = cond (ltb a 0x80) 0 (cond (ltb a 0xE0) 1 (cond (ltb a 0xF0) 2 3))
 
--- how many units its sequence has: two, which are a pair, if it has four bytes
-unfoldable pub unitsOf : ℕ → ℕ
-unitsOf a = cond (ltb a 0xF0) 1 2
-
 -- the unit of a sequence of two and of three, and the halves of the pair of one of four
 abbrev pub two : ℕ → ℕ → ℕ
 two a b = a % 0x20 * 0x40 + b % 0x40

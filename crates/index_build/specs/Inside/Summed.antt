@@ -7,7 +7,7 @@ use lib.ListN.{length, getD, take}
 use lib.Dec.{leb, eqb}
 use Rattle.terms.specs.Limits.{limit}
 use Rattle.utf8_scan.specs.Stands.{isLater}
-use Rattle.index_count.specs.Counts.{fourOf, endOf, sumsOf}
+use Rattle.utf8_count.specs.Counts.{fourOf, endOf, sumsOf}
 use Rattle.place.specs.Measures.{place}
 use Rattle.place.specs.declared.Place.{Place}
 

@@ -2,8 +2,8 @@
 use Prim.Native.Nat.{_≤_}
 use lib.ListN.{length}
 use native.Mathlib.Omega.{arith}
-use Rattle.index_count.specs.Counts.{startOf, fourOf, endOf}
-use Rattle.index_count.proofs.CountsByBlocks.{start-few, four-few, end-few, total-few}
+use Rattle.utf8_count.specs.Counts.{startOf, fourOf, endOf}
+use Rattle.utf8_count.proofs.CountsByBlocks.{start-few, four-few, end-few, total-few}
 use borrow.Author.Needs.{needs}
 use Rattle.index_build.proofs.run.add_sums.Statement.{statement}
 use Rattle.index_build.proofs.run.add_sums.Tie as tie

@@ -5,7 +5,7 @@ use lib.ListN.{length, getD}
 use borrow.Author.Tests.{le-leb, lt-leb, eq-eqb, ne-eqb}
 use native.Mathlib.Omega.{arith}
 use borrow.Author.Needs.{needs}
-use Rattle.index_count.specs.Counts.{fourOf, endOf}
+use Rattle.utf8_count.specs.Counts.{fourOf, endOf}
 use Rattle.index_build.specs.Inside.Summed.{boundary}
 use Rattle.index_build.proofs.BackToBoundary.{covered}
 use Rattle.index_build.proofs.BoundaryBefore.{Bound, boundary-bound}
