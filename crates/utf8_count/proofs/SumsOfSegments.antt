@@ -30,16 +30,16 @@ abbrev pub unitsOf : ℕ → ℕ
 unitsOf c = cond (ltb c 0x10000) 1 2
 
 -- what a first byte counts, where its sequence stands for c and has n later bytes
-abbrev pub First : ℕ → ℕ → ℕ → Type 0
-First x c n = (startOf x ≡ 1) × (unitsOf c ≡ 1 + fourOf x) × (fourOf x ≤ n)
+abbrev pub FirstByte : ℕ → ℕ → ℕ → Type 0
+FirstByte x c n = (startOf x ≡ 1) × (unitsOf c ≡ 1 + fourOf x) × (fourOf x ≤ n)
 
-first-low : (x c n : ℕ) → x < 0x80 → c < 0x10000 → First x c n
+first-low : (x c n : ℕ) → x < 0x80 → c < 0x10000 → FirstByte x c n
 first-low x c n h k = rw (lt-leb 0x80 x h, lt-leb 0xF0 x (omega arith), lt-ltb c 0x10000 k) (refl, refl, omega arith)
 
-first-mid : (x c n : ℕ) → 0xC0 ≤ x → x < 0xF0 → c < 0x10000 → First x c n
+first-mid : (x c n : ℕ) → 0xC0 ≤ x → x < 0xF0 → c < 0x10000 → FirstByte x c n
 first-mid x c n l h k = rw (le-leb 0x80 x (omega arith), le-ltb x 0xC0 l, lt-leb 0xF0 x h, lt-ltb c 0x10000 k) (refl, refl, omega arith)
 
-first-high : (x c n : ℕ) → 0xF0 ≤ x → 0x10000 ≤ c → 1 ≤ n → First x c n
+first-high : (x c n : ℕ) → 0xF0 ≤ x → 0x10000 ≤ c → 1 ≤ n → FirstByte x c n
 first-high x c n l k m = rw (le-leb 0x80 x (omega arith), le-ltb x 0xC0 (omega arith), le-leb 0xF0 x l, le-ltb c 0x10000 k) (refl, refl, m)
 
 is-later : (y : ℕ) → (0x80 ≤ y) × (y ≤ 0xBF) → isLater y ≡ true
@@ -51,7 +51,7 @@ Laters = All (λ y. isLater y ≡ true)
 -- of a sequence
 abbrev pub Formed : List ℕ → Type 0
 Formed [] = Unit {0}
-Formed (x ∷ xs) = First x (number (x ∷ xs)) (length xs) × Laters xs
+Formed (x ∷ xs) = FirstByte x (number (x ∷ xs)) (length xs) × Laters xs
 
 mid-two : (x y : ℕ) → (0xC2 ≤ x) × (x ≤ 0xDF) → (0x80 ≤ y) × (y ≤ 0xBF) → Formed (x ∷ y ∷ [])
 mid-two x y a b = (first-mid x (number (x ∷ y ∷ [])) 1 (omega arith) (omega arith) (omega arith), (is-later y b, tt))
