@@ -2,6 +2,7 @@
 -- one in which each acts.
 use mathlib.Core.Path.{_≡_, refl, sym, ap, subst, _∙_}
 use Prim.Native.Nat.{ℕ, _+_, _-_, _*_, _≤_}
+use native.Mathlib.Nat.{zero-add}
 use mathlib.Core.List.{List, [], _++_, foldl, append-assoc, append-nil}
 use lib.ListN.{length, take, drop, length-drop}
 use lib.Seq.{drop-drop, length-take-le}
@@ -17,14 +18,11 @@ use Rattle.terms.specs.declared.First.{First}
 use Rattle.terms.proofs.ConvertsBack.{whole-none, repaired-same}
 use Rattle.utf8.specs.Bytes.{bytes}
 use Rattle.utf8.specs.Scalar.{utf8}
-use Rattle.utf8_check.specs.Pace.{pacedRun}
-use Rattle.utf8_check.specs.declared.pace.Pace.{Pace}
 use Rattle.utf8_check.proofs.RunDivides.{Run, run-whole, run-settles}
-use Rattle.utf8_check.proofs.RunsPassed.{run-there}
 use Rattle.utf8_pending.specs.Tail.{firstSettled, settledSize}
 use Rattle.utf8_pending.proofs.SettledFirst.{settled-parts, settled-inside, settled-none}
 use Rattle.decoder.specs.State.{numbers, act}
-use Rattle.decoder.specs.Inside.Acting.{need, places, Work, logOf, reached, Fits, Ready, acted, passed}
+use Rattle.decoder.specs.Inside.Acting.{need, places, Work, logOf, reached, Fits, Ready, acted, passed, Settles}
 use Rattle.decoder.proofs.SettledPlaces.{need-append, parts-small}
 use Rattle.decoder.proofs.SegmentsAct.{acted-append, acted-none, ready-front, ready-behind}
 use Rattle.decoder.proofs.SettledByReader.{Told}
@@ -67,11 +65,8 @@ module _ (text : List ℕ) (n : ℕ) (r : Run text n) where
 abbrev pub run : List ℕ → ℕ → ℕ → List (Segment Kind)
 run text at n = cut bytes (take n (drop at text))
 
--- the run that was found in `&text[at..]`, at any pace
-module _ (text : List ℕ) (at : ℕ) (pace : Pace) (n : ℕ) (h : at ≤ length text) (e : n ≡ pacedRun (take (length text - at) (drop at text)) pace) where
-  there : Run (drop at text) n
-  there = run-there text at pace n h e
-
+-- the run that was found in the rest of the text
+module _ (text : List ℕ) (at n : ℕ) (h : at ≤ length text) (there : Run (drop at text) n) where
   long : length (take n (drop at text)) ≡ n
   long = length-take-le n (drop at text) (there .inside)
 
@@ -83,17 +78,18 @@ module _ (text : List ℕ) (at : ℕ) (pace : Pace) (n : ℕ) (h : at ≤ length
     need-is = sym (ap length (run-mended (drop at text) n there) ∙ long);
   }
 
-  -- `&text[at..at + n]`, as it is handed on, has room where the turn has, and does what the run's segments do
-  part : take (at + n - at) (drop at text) ≡ take n (drop at text)
-  part = let k : at + n - at ≡ n = omega arith in rw k
-
+  -- its bytes have room where the turn has, and do what its segments do
   module _ (room : ℕ) (w : Work) where
     pub run-fits : Fits room n n w
-        → (w .tally .written + length (take (at + n - at) (drop at text)) ≤ length (w .out)) × (w .tally .whole + length (take (at + n - at) (drop at text)) ≤ limit)
-    run-fits f = rw (part, long) (f .enough, omega (arith, f .sums))
+        → (w .tally .written + length (take n (drop at text)) ≤ length (w .out)) × (w .tally .whole + length (take n (drop at text)) ≤ limit)
+    run-fits f = rw long (f .enough, omega (arith, f .sums))
 
-    pub run-acted : (v : Work) → v ≡ reached (w .out) (passed (take (at + n - at) (drop at text)) (logOf w)) → v ≡ acted room (run text at n) w
-    run-acted v q = (rw part at q) ∙ ap (reached (w .out)) (run-passed (drop at text) n there room (logOf w))
+    pub run-acted : (v : Work) → v ≡ reached (w .out) (passed (take n (drop at text)) (logOf w)) → v ≡ acted room (run text at n) w
+    run-acted v q = q ∙ ap (reached (w .out)) (run-passed (drop at text) n there room (logOf w))
+
+-- `&text[at..at + n]`, as it is handed on
+pub run-part : (text : List ℕ) (at n : ℕ) → take (at + n - at) (drop at text) ≡ take n (drop at text)
+run-part text at n = let k : at + n - at ≡ n = omega arith in rw k
 
 -- ---- so much is counted, and the rest adds what is left
 
@@ -118,23 +114,23 @@ module _ (text : List ℕ) where
     pub counted-end : {r : First} → Told r (drop at text) → settledSize r ≡ 0 → n ≡ need (done text)
     counted-end d z = omega (arith, c .same, ap need (told-none text at (c .inside) d z))
 
--- ---- the segments so far have acted, and those of the rest are still to act
+-- ---- the segments from a place on have acted so far, and those of the rest are still to act
 
-module _ (room : ℕ) (text : List ℕ) (w₀ : Work) where
+module _ (room : ℕ) (text : List ℕ) (from : ℕ) (w₀ : Work) where
   pub record Walked (w : Work) (at : ℕ) : Type 0 where
     pub past : List (Segment Kind)
     pub inside : at ≤ length text
-    pub done-are : done text ≡ past ++ done (drop at text)
-    pub size-is : at ≡ total size past
+    pub done-are : done (drop from text) ≡ past ++ done (drop at text)
+    pub size-is : at ≡ from + total size past
     pub same : w ≡ acted room past w₀
 
-  module _ (ready : Ready room (done text) w₀) where
-    pub walked-start : Walked w₀ 0
-    walked-start = record {
+  module _ (ready : Ready room (done (drop from text)) w₀) where
+    pub walked-start : from ≤ length text → Walked w₀ from
+    walked-start h = record {
       past = [];
-      inside = omega arith;
+      inside = h;
       done-are = refl;
-      size-is = refl;
+      size-is = omega arith;
       same = acted-none room w₀ (omega (arith, ready .enough));
     }
 
@@ -143,12 +139,14 @@ module _ (room : ℕ) (text : List ℕ) (w₀ : Work) where
         abbrev rest : List (Segment Kind)
         rest = done (drop (at + n) text)
 
-        -- there is room for them
+        -- what is enough for all is enough for them, and then for the rest
+        ready-next : Ready room (next ++ rest) w
+        ready-next =
+            let p : done (drop from text) ≡ a .past ++ (next ++ rest) = a .done-are ∙ ap (λ (ss : List (Segment Kind)). a .past ++ ss) (t .done-are) in
+            rw (a .same) (ready-behind room (a .past) (next ++ rest) w₀ (subst (λ (ss : List (Segment Kind)). Ready room ss w₀) p ready))
+
         pub walked-ready : Fits room places n w
-        walked-ready =
-            let p : done text ≡ a .past ++ (next ++ rest) = a .done-are ∙ ap (λ (ss : List (Segment Kind)). a .past ++ ss) (t .done-are) in
-            let b = ready-behind room (a .past) (next ++ rest) w₀ (subst (λ (ss : List (Segment Kind)). Ready room ss w₀) p ready) in
-            rw (a .same, t .size-is, t .need-is) (ready-front room next rest (acted room (a .past) w₀) b)
+        walked-ready = rw (t .size-is, t .need-is) (ready-front room next rest w ready-next)
 
         pub walked-next : (v : Work) → v ≡ acted room next w → Walked v (at + n)
         walked-next v e = record {
@@ -161,8 +159,23 @@ module _ (room : ℕ) (text : List ℕ) (w₀ : Work) where
           same = e ∙ rw (a .same) (acted-append room (a .past) next w₀);
         }
 
-      pub walked-end : {r : First} → Told r (drop at text) → settledSize r ≡ 0 → (w ≡ acted room (done text) w₀) × (at ≡ total size (done text))
-      walked-end d z =
-          let p : done text ≡ a .past
-          = a .done-are ∙ ap (λ (ss : List (Segment Kind)). a .past ++ ss) (told-none text at (a .inside) d z) ∙ append-nil (a .past) in
-          (a .same ∙ ap (λ (ss : List (Segment Kind)). acted room ss w₀) (sym p), a .size-is ∙ ap (total size) (sym p))
+        pub walked-rest : (v : Work) → v ≡ acted room next w → Ready room rest v
+        walked-rest v e = rw e (ready-behind room next rest w ready-next)
+
+      -- nothing more is settled
+      module _ {r : First} (d : Told r (drop at text)) (z : settledSize r ≡ 0) where
+        all-are : done (drop from text) ≡ a .past
+        all-are = a .done-are ∙ ap (λ (ss : List (Segment Kind)). a .past ++ ss) (told-none text at (a .inside) d z) ∙ append-nil (a .past)
+
+        pub walked-end : (w ≡ acted room (done (drop from text)) w₀) × (at ≡ from + total size (done (drop from text)))
+        walked-end = (a .same ∙ ap (λ (ss : List (Segment Kind)). acted room ss w₀) (sym all-are), a .size-is ∙ ap (λ (ss : List (Segment Kind)). from + total size ss) (sym all-are))
+
+-- the first segments of a text have acted, and then all others
+pub settled-behind : (room : ℕ) (text : List ℕ) (w₀ w v : Work) (n k : ℕ) {places : ℕ} {next : List (Segment Kind)} → Turn text 0 n places next → w ≡ acted room next w₀
+    → (v ≡ acted room (done (drop n text)) w) × (k ≡ n + total size (done (drop n text))) → Settles room text w₀ v k
+settled-behind room text w₀ w v n k {next = next} t e d =
+    let q : done text ≡ next ++ done (drop n text) = rw (zero-add n) at (t .done-are) in
+    record {
+      same = d .0 ∙ rw e (acted-append room next (done (drop n text)) w₀) ∙ ap (λ (ss : List (Segment Kind)). acted room ss w₀) (sym q);
+      bytes-are = omega (arith, d .1, t .size-is, ap (total size) q, total-append size next (done (drop n text)));
+    }

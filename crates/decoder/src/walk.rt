@@ -6,11 +6,10 @@ ghost use mathlib.Core.Path.{_≡_};
 ghost use Prim.Native.Nat.{_+_, _*_, _≤_};
 ghost use lib.ListN.{length};
 ghost use Rattle.theory.specs.Reader.{parts};
-ghost use Rattle.theory.specs.Tally.{total, size};
 ghost use Rattle.terms.specs.Limits.{limit};
 ghost use Rattle.terms.specs.Told.{toldFirst, firstSays};
 ghost use Rattle.utf8.specs.Bytes.{bytes};
-ghost use Rattle.decoder.specs.Inside.Acting.{work, Ready, acted, need, places, lack};
+ghost use Rattle.decoder.specs.Inside.Acting.{work, Ready, Settles, need, places, lack};
 
 // What the settled segments of a text did, and how many bytes they have.
 pub(crate) struct Settled {
@@ -75,7 +74,7 @@ pub(crate) fn lacking(seg: First, text: &[u8], most: usize) -> usize
     0
 }
 
-// Each settled segment of a text acts in its turn.
+// Each settled segment of a text acts in its turn. The first run goes before all others: in most pieces it is all there is.
 pub(crate) fn walk(
     text: &[u8],
     tally: Tally,
@@ -84,25 +83,25 @@ pub(crate) fn walk(
     list: &mut [u32],
 ) -> Settled
     requires { ⌜ Ready room (parts bytes (now text) .done) (work tally (now out) (now list)) ⌝ }
-    ensures { λ r. ⌜ (work (r .tally) (now (out .exit)) (now (list .exit))
-        ≡ acted room (parts bytes (now (text .entry)) .done) (work tally (now (out .entry)) (now (list .entry))))
-        × (r .size ≡ total size (parts bytes (now (text .entry)) .done)) ⌝ }
+    ensures { λ r. ⌜ Settles room (now (text .entry)) (work tally (now (out .entry)) (now (list .entry)))
+        (work (r .tally) (now (out .exit)) (now (list .exit))) (r .size) ⌝ }
 {
-    let mut at: usize = 0;
-    let mut tally = tally;
+    let mut run = utf8_check::whole_run(text);
+    let mut tally = crate::tally::pass(&text[..run], tally, out);
+    let mut at = run;
     let mut pace = Pace::START;
     loop {
-        let run = utf8_check::paced_run(&text[at..], pace);
-        let end = at + run;
-        tally = crate::tally::pass(&text[at..end], tally, out);
-        let rest = &text[end..];
+        let rest = &text[at..];
         let seg = first_of(rest);
         let size = utf8_pending::settled_size(seg);
         if size == 0 {
-            return Settled { tally, size: end };
+            return Settled { tally, size: at };
         }
         tally = crate::tally::act(seg, rest, tally, room, out, list);
-        at = end + size;
+        let from = at + size;
         pace = utf8_check::pace_behind(pace, run);
+        run = utf8_check::paced_run(&text[from..], pace);
+        at = from + run;
+        tally = crate::tally::pass(&text[from..at], tally, out);
     }
 }

@@ -69,7 +69,7 @@ abbrev asked : tie.After-walk → tie.Start
 asked c = start (c .before .before .before .before .before .before .before .before .before .before .before .before)
 
 inside : (c : tie.After-walk) → c .walk .result .size ≤ length (asked c .args .rest .now)
-inside c = omega (arith, c .walk .ensures .1, settled-inside (asked c .args .rest .now))
+inside c = omega (arith, c .walk .ensures .bytes-are, settled-inside (asked c .args .rest .now))
 
 left-is : (c : tie.After-walk)
     → let rest = asked c .args .rest .now in
@@ -77,7 +77,7 @@ left-is : (c : tie.After-walk)
     take (length rest - n) (drop n rest) ≡ parts bytes rest .left
 left-is c =
     let rest = asked c .args .rest .now in
-    part-is rest (c .walk .result .size) ∙ ap (λ (n : ℕ). drop n rest) (c .walk .ensures .1) ∙ settled-left rest
+    part-is rest (c .walk .result .size) ∙ ap (λ (n : ℕ). drop n rest) (c .walk .ensures .bytes-are) ∙ settled-left rest
 
 sub-keep : tie.Need-sub-keep
 sub-keep c = inside (c .before .before .before .before .before)
@@ -106,7 +106,7 @@ returns-2 c =
     let a = z .args in
     behind-done (a .state) (a .seg) (a .seam .now) (a .rest .now) (a .list .now) (z .pre) (a .taken) (a .out .now) (enough e)
     (work (t .act .result) (t .act .last .1 .1 .1 .1 .0) (t .act .last .1 .1 .1 .1 .1 .0)) (seam-acts t)
-    (work (k .walk .result .tally) (k .walk .last .1 .1 .1 .0) (k .walk .last .1 .1 .1 .1 .0)) (k .walk .ensures .0)
+    (work (k .walk .result .tally) (k .walk .last .1 .1 .1 .0) (k .walk .last .1 .1 .1 .1 .0)) (k .walk .ensures .same)
     (c .keep .result) (c .keep .ensures ∙ ap (λ (xs : List ℕ). keeping xs (k .walk .result .tally) (a .taken) (a .state .room)) (left-is k))
 
 pub feed-rest-spec : {M : Type 1} → statement M

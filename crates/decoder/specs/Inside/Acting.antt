@@ -5,13 +5,14 @@ use mathlib.Core.List.{List, [], _∷_, _++_, foldl}
 use lib.ListN.{length, take, drop}
 use lib.Dec.{ltb}
 use mathlib.Core.Bool.{cond}
-use Rattle.theory.specs.Reader.{Segment}
+use Rattle.theory.specs.Reader.{Segment, parts}
 use Rattle.theory.specs.Table.{Kind, whole, damage}
 use Rattle.theory.specs.Tally.{written, total, size, store, Log}
 use Rattle.terms.specs.Form.{replacement, mend}
 use Rattle.terms.specs.Limits.{limit, entryWidth}
 use Rattle.terms.specs.declared.First.{First}
 use Rattle.terms.specs.declared.First.the-variants.{Nothing, Whole, Damage, Begun}
+use Rattle.utf8.specs.Bytes.{bytes}
 use Rattle.utf8.specs.Scalar.{utf8}
 use Rattle.utf8_pending.specs.Tail.{settledSize}
 use Rattle.decoder.specs.State.{numbers, act}
@@ -90,6 +91,11 @@ Ready room ss = Fits room (need ss) (total size ss)
 -- THE ACTION of segments
 abbrev pub acted : ℕ → List (Segment Kind) → Work → Work
 acted room ss w = reached (w .out) (foldl (act room) (logOf w) ss)
+
+-- all that is settled of a text has acted, and it has so many bytes
+pub record Settles (room : ℕ) (text : List ℕ) (w v : Work) (n : ℕ) : Type 0 where
+  pub same : v ≡ acted room (parts bytes text .done) w
+  pub bytes-are : n ≡ total size (parts bytes text .done)
 
 -- ---- what it does to a log
 

@@ -5,6 +5,7 @@ use lib.ListN.{length, drop}
 use native.Mathlib.Omega.{arith}
 use borrow.Author.Needs.{needs}
 use Rattle.terms.proofs.WalkBySegments.{part-is}
+use Rattle.utf8_check.proofs.RunsPassed.{run-there}
 use Rattle.decoder.proofs.SettledByReader.{Told, told}
 use Rattle.decoder.proofs.SettledWalk.{told-turn, run-turn, Counted, counted-start, counted-small, counted-next, counted-end}
 use Rattle.decoder.proofs.walk.need_of.Statement.{statement}
@@ -38,7 +39,8 @@ ran : (c : tie.After-paced-run Inv-loop μ-loop)
 ran c =
     let l = c .before .before in
     let text = l .before .before .args .text .now in
-    counted-next text (l .loop .at) (l .loop .n) (l .loop .inv) (run-turn text (l .loop .at) (l .loop .pace) (c .paced-run .result) (l .loop .inv .inside) (c .paced-run .ensures))
+    let there = run-there text (l .loop .at) (l .loop .pace) (c .paced-run .result) (l .loop .inv .inside) (c .paced-run .ensures) in
+    counted-next text (l .loop .at) (l .loop .n) (l .loop .inv) (run-turn text (l .loop .at) (c .paced-run .result) (l .loop .inv .inside) there)
 
 add-n : tie.Need-add-n Inv-loop μ-loop
 add-n c =
