@@ -1,17 +1,18 @@
 -- The place behind whole segments is that of the sums of their bytes, and the stream behind them is at their end.
 use mathlib.Core.Path.{_≡_, _∙_}
 use Prim.Native.Nat.{ℕ, zero, _+_, _≤_}
-use mathlib.Core.Bool.{false}
 use mathlib.Core.List.{List, [], _∷_, foldl}
 use lib.ListN.{length}
 use native.Mathlib.Omega.{arith}
-use Rattle.theory.specs.Reader.{Segment, first, rest, cut, parts}
+use Rattle.theory.specs.Reader.{Segment, cut, parts}
 use Rattle.theory.specs.Table.{Kind, isDamage}
 use Rattle.theory.specs.Tally.{total, size}
-use Rattle.theory.proofs.Divisions.{cut-nil, cut-cons, cut-size, parts-nil, parts-sure, by-segments}
+use Rattle.theory.proofs.Divisions.{cut-size}
+use Rattle.theory.proofs.WholeRuns.{run-settled}
 use Rattle.terms.specs.Limits.{limit}
 use Rattle.terms.proofs.ConvertsBack.{AllWhole}
 use Rattle.utf8.proofs.RowsOfBytes.{whole-sure}
+use Rattle.utf8_check.proofs.RunDivides.{whole-tags}
 use Rattle.utf8_count.specs.Counts.{startOf, fourOf}
 use Rattle.utf8_count.proofs.SumsOfSegments.{by-wholes, ends-few}
 use Rattle.place.specs.Measures.{place, unitsOf, linesOf, ruler, reader}
@@ -58,9 +59,4 @@ summed-fits p text w f h =
 -- ---- the stream behind them
 
 pub parts-whole : (text : List ℕ) → AllWhole (cut reader text) → parts reader text ≡ record { done = cut reader text; left = [] }
-parts-whole = by-segments reader (λ (text : List ℕ). AllWhole (cut reader text) → parts reader text ≡ record { done = cut reader text; left = [] })
-    (λ w. parts-nil reader ∙ rw cut-nil)
-    (λ x xs ih w.
-    let v : AllWhole (first reader x xs ∷ cut reader (rest reader x xs)) = rw (cut-cons reader x xs) at w in
-    let t : isDamage (reader x xs .tag) ≡ false = rw (v .0) in
-    parts-sure reader x xs (whole-sure x xs t) ∙ rw (ih (v .1), cut-cons reader x xs))
+parts-whole text w = run-settled isDamage reader whole-sure text (whole-tags (cut reader text) w)

@@ -56,7 +56,7 @@ module _ (x : ℕ) (hs : List ℕ) (w : (ys : List ℕ) → bytes x (hs ++ ys) �
 
 -- ---- all of it is settled, whatever follows, and then what is settled of the rest
 
-whole-tags : (ss : List (Segment Kind)) → All (λ s. s .tag ≡ whole) ss → Undamaged isDamage ss
+pub whole-tags : (ss : List (Segment Kind)) → All (λ s. s .tag ≡ whole) ss → Undamaged isDamage ss
 whole-tags [] a = tt
 whole-tags (s ∷ ss) a = (rw (a .0), whole-tags ss (a .1))
 
