@@ -20,6 +20,7 @@ extern void qemu_plugin_register_atexit_cb(plugin, on_end *, void *);
 extern void qemu_plugin_register_vcpu_insn_exec_inline(struct instruction *, int, void *, uint64_t);
 extern size_t qemu_plugin_tb_n_insns(const struct block *);
 extern struct instruction *qemu_plugin_tb_get_insn(const struct block *, size_t);
+// The first version of the interface, which the emulator of Debian 12 has.
 EXPORT int qemu_plugin_version = 1;
 
 enum { ADD = 0, CLOSE = 3, MARK = -0x6d6f78 };

@@ -1,12 +1,12 @@
 //! Counting the instructions of two bodies, by the plug-in count.c of the emulator that this program then runs under.
 use crate::meter::{Meter, Pair};
+use crate::shelf::PAGE;
 use std::path::{Path, PathBuf};
 
 /// The descriptor whose closing the plug-in takes for a mark; no file has it, so that nothing is closed.
 const MARK: i32 = -0x6d6f78;
 /// The parameter of the C library from which size on a buffer gets pages of its own.
 const OWN_PAGES: i32 = -3;
-const PAGE: i32 = 4_096;
 
 extern "C" {
     fn close(descriptor: i32) -> i32;
@@ -35,7 +35,7 @@ impl Counter {
     /// Reads the counts from the plug-in's file. What a peer allocates stands alike in its pages from now on.
     pub fn new(counts: PathBuf) -> Counter {
         // SAFETY: the call sets a number of the allocator alone.
-        unsafe { mallopt(OWN_PAGES, PAGE) };
+        unsafe { mallopt(OWN_PAGES, PAGE as i32) };
         let mut counter = Counter { counts, around: 0 };
         counter.around = counter.count(&mut || {});
         counter

@@ -87,11 +87,11 @@ fn time(folder: &Path, target: &Path) -> Result<()> {
     std::fs::write(folder.join("benchmark.svg"), picture)
 }
 
-fn count(folder: &Path, target: &Path) -> Result<()> {
+fn count(folder: &Path, target: &Path, versions: &str) -> Result<()> {
     let of_report = report::counts(target)?;
     let mut counter = counter::Counter::new(target.join("counts"));
     let rows = rows(&mut counter, counted);
-    let part = instructions::part(&rows, &of_report);
+    let part = instructions::part(&rows, &of_report, versions);
     parts::replace(folder, Part::Instructions, &part)
 }
 
@@ -100,10 +100,12 @@ fn main() -> Result<()> {
     let words: Vec<&str> = words.iter().map(String::as_str).collect();
     match words[..] {
         ["time", folder, target] => time(folder.as_ref(), target.as_ref()),
-        ["count", folder, target] => count(folder.as_ref(), target.as_ref()),
+        ["count", folder, target, versions] => count(folder.as_ref(), target.as_ref(), versions),
         ["texts", target] => report::write_texts(target.as_ref()),
         _ => {
-            eprintln!("moxandril-bench time FOLDER TARGET | count FOLDER TARGET | texts TARGET");
+            eprintln!(
+                "moxandril-bench time FOLDER TARGET | count FOLDER TARGET VERSIONS | texts TARGET"
+            );
             std::process::exit(2)
         }
     }

@@ -1,7 +1,7 @@
 //! Room for a text and for what is written of it: each begins a page and stands behind the one before, wherever the whole lies. So a
 //! number of instructions depends neither on the allocator nor on the machine.
 
-const PAGE: usize = 4_096;
+pub const PAGE: usize = 4_096;
 
 #[repr(C, align(4096))]
 #[derive(Clone, Copy)]

@@ -1,5 +1,5 @@
 -- Runs of whole segments in the walks that count and write units: what is counted and spelled at once.
-use mathlib.Core.Path.{_≡_, sym, ap}
+use mathlib.Core.Path.{_≡_, sym}
 use Prim.Native.Nat.{ℕ, _+_, _-_, _≤_}
 use mathlib.Core.List.{List, [], _++_}
 use lib.ListN.{length, take, drop}
@@ -8,6 +8,7 @@ use Rattle.theory.specs.Reader.{cut}
 use Rattle.terms.specs.Form.{converted}
 use Rattle.terms.specs.Strict.{damages}
 use Rattle.terms.proofs.ConvertsBack.{whole-none}
+use Rattle.terms.proofs.WalkBySegments.{part-to}
 use Rattle.terms.proofs.WalkWrites.{Passed, left, Counted, summed-on, Wrote, lent, back, filled-room, filled-on}
 use Rattle.utf8.specs.Bytes.{bytes}
 use Rattle.utf8.specs.Scalar.{utf8}
@@ -33,27 +34,23 @@ module _ (text : List ℕ) (at : ℕ) (pace : Pace) (n : ℕ) (h : at ≤ length
   pub passed-units : Passed (left utf8 utf16 text) (length text) at n (spelled (take n (drop at text)))
   passed-units = rw run-spelled at (passed-run text at pace n h e utf16)
 
-  -- `&text[at..at + n]`
-  taken : take (at + n - at) (drop at text) ≡ take n (drop at text)
-  taken = let k : at + n - at ≡ n = omega arith in ap (λ (i : ℕ). take i (drop at text)) k
-
   -- it has no damage
   pub run-undamaged : damages bytes (take (at + n - at) (drop at text)) ≡ []
-  run-undamaged = rw taken (whole-none 0 (cut bytes (take n (drop at text))) (run-there text at pace n h e .all))
+  run-undamaged = rw (part-to text at n) (whole-none 0 (cut bytes (take n (drop at text))) (run-there text at pace n h e .all))
 
   pub counted-units : (total units : ℕ) → Counted utf8 utf16 text at total → units ≡ length (converted utf8 utf16 (take (at + n - at) (drop at text)))
       → Counted utf8 utf16 text (at + n) (total + units)
   counted-units total units c u =
-      let k : units ≡ length (converted utf8 utf16 (take n (drop at text))) = rw taken at u in
+      let k : units ≡ length (converted utf8 utf16 (take n (drop at text))) = rw (part-to text at n) at u in
       rw k (summed-on (left utf8 utf16 text) (length text) at total n (converted utf8 utf16 (take n (drop at text))) c (passed-run text at pace n h e utf16))
 
   module _ (out₀ out : List ℕ) (done : ℕ) (w : Wrote utf8 utf16 text out₀ out at done) (room : length (converted utf8 utf16 text) ≤ length out₀) where
     pub units-room : length (spelled (take (at + n - at) (drop at text))) ≤ length (lent out done)
-    units-room = rw taken (filled-room (left utf8 utf16 text) (length text) out₀ out at done w room n (spelled (take n (drop at text))) passed-units)
+    units-room = rw (part-to text at n) (filled-room (left utf8 utf16 text) (length text) out₀ out at done w room n (spelled (take n (drop at text))) passed-units)
 
     pub wrote-units : (ys : List ℕ) (put : ℕ) → Puts (spelled (take (at + n - at) (drop at text))) (lent out done) ys put
         → Wrote utf8 utf16 text out₀ (back out done ys) (at + n) (done + put)
     wrote-units ys put q =
-        let k : put ≡ length (spelled (take n (drop at text))) = rw taken at (q .count) in
-        let o : ys ≡ spelled (take n (drop at text)) ++ drop (length (spelled (take n (drop at text)))) (lent out done) = rw taken at (q .output) in
+        let k : put ≡ length (spelled (take n (drop at text))) = rw (part-to text at n) at (q .count) in
+        let o : ys ≡ spelled (take n (drop at text)) ++ drop (length (spelled (take n (drop at text)))) (lent out done) = rw (part-to text at n) at (q .output) in
         rw k (filled-on (left utf8 utf16 text) (length text) out₀ out at done w room n (spelled (take n (drop at text))) passed-units ys o)

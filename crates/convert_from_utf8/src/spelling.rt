@@ -16,7 +16,7 @@ ghost use Rattle.convert_from_utf8.specs.Inside.Spell.{two, three, first
 ghost use Rattle.convert_from_utf8.specs.Inside.Stride.{Strides, Short, Ascii};
 ghost use Rattle.convert_point.specs.Puts.{Puts};
 
-// How far a stride went: so many bytes are passed over, and so many places written.
+// How far a stride or a step went: so many bytes are passed over, and so many places written.
 pub(crate) struct Reach {
     pub passed: usize,
     pub put: usize,

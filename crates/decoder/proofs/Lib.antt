@@ -24,7 +24,7 @@ pub mod TestsAsFacts
 pub mod ChecksInOrder
 -- An entry in the list: it is stored where there is room for it
 pub mod EntryStored
--- What is settled of a text: what is left stands behind it, and it takes at most three places for each byte
+-- What is settled of a text: what is left stands behind it, and it takes at most three places for each byte; and what is lacking of them
 pub mod SettledPlaces
 -- What the reader told of a text is the settled segment that stands first in it, with its bytes and its places
 pub mod SettledByReader

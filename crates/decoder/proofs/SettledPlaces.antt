@@ -32,11 +32,11 @@ pub parts-small : (text : List ℕ) → need (parts bytes text .done) ≤ 3 * le
 parts-small text = omega (arith, need-small (parts bytes text .done), parts-size bytes text)
 
 module _ (text : List ℕ) where
-  pub settled-inside : total size (parts bytes text .done) ≤ length text
-  settled-inside = omega (arith, parts-size bytes text)
+  pub done-inside : total size (parts bytes text .done) ≤ length text
+  done-inside = omega (arith, parts-size bytes text)
 
-  pub settled-left : drop (total size (parts bytes text .done)) text ≡ parts bytes text .left
-  settled-left =
+  pub done-left : drop (total size (parts bytes text .done)) text ≡ parts bytes text .left
+  done-left =
       let done = written body (parts bytes text .done) in
       ap (drop (total size (parts bytes text .done))) (sym (parts-text bytes text))
       ∙ drop-at done (parts bytes text .left) (total size (parts bytes text .done)) (length-written body (parts bytes text .done))

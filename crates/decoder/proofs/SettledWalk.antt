@@ -18,7 +18,8 @@ use Rattle.terms.specs.declared.First.{First}
 use Rattle.terms.proofs.ConvertsBack.{whole-none, repaired-same}
 use Rattle.utf8.specs.Bytes.{bytes}
 use Rattle.utf8.specs.Scalar.{utf8}
-use Rattle.utf8_check.proofs.RunDivides.{Run, run-whole, run-settles}
+use Rattle.utf8_check.proofs.RunDivides.{Run, run-long, run-size, run-whole, run-settles}
+use Rattle.utf8_check.proofs.RunsPassed.{run-repaired}
 use Rattle.utf8_pending.specs.Tail.{firstSettled, settledSize}
 use Rattle.utf8_pending.proofs.SettledFirst.{settled-parts, settled-inside, settled-none}
 use Rattle.decoder.specs.State.{numbers, act}
@@ -53,13 +54,10 @@ module _ (text : List ℕ) (at : ℕ) (h : at ≤ length text) {r : First} (d : 
 
 -- a run of whole segments is written as it is
 module _ (text : List ℕ) (n : ℕ) (r : Run text n) where
-  run-mended : repaired utf8 (take n text) ≡ take n text
-  run-mended = repaired-same utf8 (take n text) (whole-none 0 (cut bytes (take n text)) (r .all))
-
   run-passed : (room : ℕ) (l : Log) → passed (take n text) l ≡ foldl (act room) l (cut bytes (take n text))
   run-passed room l =
       sym (run-logged isDamage (mend utf8) numbers entryWidth room l (cut bytes (take n text)) (run-whole text n r)
-      ∙ rw (cut-size bytes (take n text), run-mended))
+      ∙ rw (cut-size bytes (take n text), run-repaired text n r))
 
 -- the segments of n bytes from a place on
 abbrev pub run : List ℕ → ℕ → ℕ → List (Segment Kind)
@@ -67,29 +65,22 @@ run text at n = cut bytes (take n (drop at text))
 
 -- the run that was found in the rest of the text
 module _ (text : List ℕ) (at n : ℕ) (h : at ≤ length text) (there : Run (drop at text) n) where
-  long : length (take n (drop at text)) ≡ n
-  long = length-take-le n (drop at text) (there .inside)
-
   pub run-turn : Turn text at n n (run text at n)
   run-turn = record {
     inside = omega (arith, there .inside, length-drop at text);
     done-are = ap (λ (p : Parts Kind). p .done) (run-settles (drop at text) n there) ∙ rw (drop-drop n at text);
-    size-is = sym (cut-size bytes (take n (drop at text)) ∙ long);
-    need-is = sym (ap length (run-mended (drop at text) n there) ∙ long);
+    size-is = sym (run-size (drop at text) n there);
+    need-is = sym (ap length (run-repaired (drop at text) n there) ∙ run-long (drop at text) n there);
   }
 
   -- its bytes have room where the turn has, and do what its segments do
   module _ (room : ℕ) (w : Work) where
     pub run-fits : Fits room n n w
         → (w .tally .written + length (take n (drop at text)) ≤ length (w .out)) × (w .tally .whole + length (take n (drop at text)) ≤ limit)
-    run-fits f = rw long (f .enough, omega (arith, f .sums))
+    run-fits f = rw (run-long (drop at text) n there) (f .enough, omega (arith, f .sums))
 
     pub run-acted : (v : Work) → v ≡ reached (w .out) (passed (take n (drop at text)) (logOf w)) → v ≡ acted room (run text at n) w
     run-acted v q = q ∙ ap (reached (w .out)) (run-passed (drop at text) n there room (logOf w))
-
--- `&text[at..at + n]`, as it is handed on
-pub run-part : (text : List ℕ) (at n : ℕ) → take (at + n - at) (drop at text) ≡ take n (drop at text)
-run-part text at n = let k : at + n - at ≡ n = omega arith in rw k
 
 -- ---- so much is counted, and the rest adds what is left
 

@@ -2,8 +2,6 @@
 use terms::Decoder;
 use terms::Refusal;
 ghost use mathlib.Core.Path.{_≡_};
-ghost use Rattle.utf8.specs.Pending.{zeros};
-ghost use Rattle.utf8_pending.specs.Tail.{isTail};
 ghost use Rattle.decoder.specs.Tests.{sound, balanced};
 ghost use Rattle.decoder.specs.Checks.{admitSays};
 ghost use Rattle.decoder.specs.Inside.Steps.{admission};
@@ -40,35 +38,12 @@ fn is_balanced(state: Decoder) -> bool
     state.room <= Decoder::ROOM
 }
 
-// Are the three places of pending bytes all 0?
-fn is_zero(held: [u8; Decoder::PENDING]) -> bool
-    ensures { λ r. ⌜ r ≡ zeros held ⌝ }
-{
-    if held[0] != 0 {
-        return false;
-    }
-    if held[1] != 0 {
-        return false;
-    }
-    held[2] == 0
-}
-
-// Are the pending bytes as they may be? Mostly there are none.
-fn is_pending(state: Decoder) -> bool
-    ensures { λ r. ⌜ r ≡ isTail (state .held) (state .pending) ⌝ }
-{
-    let held = state.held;
-    if state.pending == 0 {
-        return is_zero(held);
-    }
-    utf8_pending::is_tail(held, state.pending)
-}
-
 // The tests of a state.
 fn is_sound(state: Decoder) -> bool
     ensures { λ r. ⌜ r ≡ sound state ⌝ }
 {
-    if !is_pending(state) {
+    let held = state.held;
+    if !utf8_pending::is_tail(held, state.pending) {
         return false;
     }
     is_balanced(state)

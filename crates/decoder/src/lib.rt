@@ -83,7 +83,7 @@ fn keep(left: &[u8], tally: Tally, taken: usize, room: usize) -> Decoder
     }
 }
 
-// The settled segment of a seam, and then a text, are fed to a state, which has then taken so many bytes.
+// The settled segment of a seam, if it has one, and then a text, are fed to a state, which has then taken so many bytes.
 fn feed_rest(
     seg: First,
     seam: &[u8],
@@ -114,7 +114,8 @@ fn feed_rest(
     }
 }
 
-// A piece is fed behind what is pending: their seam tells whether anything is settled yet.
+// A piece is fed behind what is pending: their seam tells whether anything is settled yet. An empty one tells nothing, and the piece goes
+// on from its start.
 fn join(seam: &[u8], state: Decoder, piece: &[u8], out: &mut [u8], list: &mut [u32]) -> Fed
     requires { ⌜ (admitSays state (length (now piece)) (length (now list)) ≡ 0 ∷ []) × (now seam ≡ steps.seamed state (now piece)) ⌝ }
     ensures { λ r. ⌜ steps.Answers state (state .taken + length (now (piece .entry))) (fed state (now (piece .entry)) (now (list .entry)))

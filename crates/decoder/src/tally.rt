@@ -1,4 +1,4 @@
-// What one segment does once it is settled: to a tally, to the output in repaired form, and to the list of damages.
+// What settled segments do: to a tally, to the output in repaired form, and to the list of damages.
 use terms::Decoder;
 use terms::First;
 ghost use mathlib.Core.Path.{_≡_};

@@ -34,7 +34,8 @@ fn first_of(text: &[u8]) -> First
     utf8::segment(text)
 }
 
-// How many places what is settled of a text takes in repaired form.
+// How many places what is settled of a text takes in repaired form. A second call of `first_of` would keep the compiler from
+// putting the one in `walk` where it is used.
 fn need_of(text: &[u8]) -> usize
     requires { ⌜ length (now text) ≤ limit ⌝ }
     ensures { λ r. ⌜ r ≡ need (parts bytes (now (text .entry)) .done) ⌝ }
@@ -59,16 +60,16 @@ fn need_of(text: &[u8]) -> usize
 
 // How many places a segment and what is settled of a text behind it need, where so many are too few, and 0 where they are enough.
 // Nothing is counted where they are enough for any text of this length.
-pub(crate) fn lacking(seg: First, text: &[u8], most: usize) -> usize
+pub(crate) fn lacking(seg: First, text: &[u8], given: usize) -> usize
     requires { ⌜ (places seg ≤ 3 * limit) × (length (now text) ≤ limit) ⌝ }
-    ensures { λ r. ⌜ r ≡ lack (places seg + need (parts bytes (now (text .entry)) .done)) most ⌝ }
+    ensures { λ r. ⌜ r ≡ lack (places seg + need (parts bytes (now (text .entry)) .done)) given ⌝ }
 {
     let first = crate::tally::places(seg);
-    if first + crate::tally::MARK * text.len() <= most {
+    if first + crate::tally::MARK * text.len() <= given {
         return 0;
     }
     let needed = first + need_of(text);
-    if most < needed {
+    if given < needed {
         return needed;
     }
     0

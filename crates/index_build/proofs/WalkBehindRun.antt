@@ -12,9 +12,9 @@ use Rattle.theory.proofs.PieceMore.{feed-after, after-nil}
 use Rattle.terms.proofs.ConvertsBack.{whole-none}
 use Rattle.utf8_check.specs.Run.{wholeRun}
 use Rattle.place.proofs.ReaderDivides.{reader-division}
-use Rattle.utf8_check.proofs.RunDivides.{Run}
+use Rattle.utf8_check.proofs.RunDivides.{Run, run-long}
 use Rattle.utf8_check.proofs.StandingIsWhole.{run-at}
-use Rattle.terms.proofs.WalkBySegments.{part-is}
+use Rattle.terms.proofs.WalkBySegments.{part-is, part-to}
 use Rattle.place.specs.Measures.{ruler, reader}
 use Rattle.place.specs.Lookup.{fourCounts}
 use Rattle.place.specs.declared.Place.{Place}
@@ -46,16 +46,13 @@ module _ (text : List ℕ) (from : Place) (row₀ : List ℕ) (w : Walks from te
   there : Run (drop at text) n
   there = run-at (drop at text) n (rw (part-is text at) at e)
 
-  part : take (at + n - at) (drop at text) ≡ take n (drop at text)
-  part = let k : at + n - at ≡ n = omega arith in rw k
-
   pub run-inside : at + n ≤ length text
   run-inside = omega (arith, there .inside, length-drop at text, d .inside)
 
   pub run-runs : Runs p (take (at + n - at) (drop at text)) row
   run-runs =
-      let l : length (take n (drop at text)) ≡ n = length-take-le n (drop at text) (there .inside) in
-      rw part (record {
+      let l : length (take n (drop at text)) ≡ n = run-long (drop at text) n there in
+      rw (part-to text at n) (record {
         walks = record {
           fits = d .fits;
           within = rw l (omega (arith, run-inside, d .bytes-are, w .within));
@@ -66,4 +63,4 @@ module _ (text : List ℕ) (from : Place) (row₀ : List ℕ) (w : Walks from te
 
   pub run-walked : {row′ : List ℕ} {q : Place}
       → Walked (take (at + n - at) (drop at text)) p row row′ q (length (take (at + n - at) (drop at text))) → Walked text from row₀ row′ q (at + n)
-  run-walked v = walked-on text from row₀ d (walked-part (drop at text) n (there .inside) (rw part at v))
+  run-walked v = walked-on text from row₀ d (walked-part (drop at text) n (there .inside) (rw (part-to text at n) at v))

@@ -24,6 +24,10 @@ use Rattle.terms.specs.declared.First.the-variants.{Nothing, Whole, Dama
 pub part-is : (text : List ℕ) (at : ℕ) → take (length text - at) (drop at text) ≡ drop at text
 part-is text at = take-all (length text - at) (drop at text) (omega (arith, length-drop at text))
 
+-- and a part of it, as `&text[at..at + n]` does
+pub part-to : (text : List ℕ) (at n : ℕ) → take (at + n - at) (drop at text) ≡ take n (drop at text)
+part-to text at n = let k : at + n - at ≡ n = omega arith in rw k
+
 -- what is told of the empty text, and of one that is not empty
 pub says-nothing : (look : Reader Kind) (text : List ℕ) → length text ≡ 0 → [] ≡ firstSays look text
 says-nothing look [] e = refl

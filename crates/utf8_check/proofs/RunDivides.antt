@@ -61,6 +61,12 @@ whole-tags [] a = tt
 whole-tags (s ∷ ss) a = (rw (a .0), whole-tags ss (a .1))
 
 module _ (text : List ℕ) (n : ℕ) (r : Run text n) where
+  pub run-long : length (take n text) ≡ n
+  run-long = length-take-le n text (r .inside)
+
+  pub run-size : total size (cut bytes (take n text)) ≡ n
+  run-size = cut-size bytes (take n text) ∙ run-long
+
   pub run-whole : Undamaged isDamage (cut bytes (take n text))
   run-whole = whole-tags (cut bytes (take n text)) (r .all)
 
@@ -79,7 +85,7 @@ entries-whole at (s ∷ ss) rest a =
 module _ (text : List ℕ) (n : ℕ) (r : Run text n) where
   pub run-clean : Clean bytes text n
   run-clean =
-      let e : total size (cut bytes (take n text)) ≡ n = cut-size bytes (take n text) ∙ length-take-le n text (r .inside) in
+      let e : total size (cut bytes (take n text)) ≡ n = run-size text n r in
       record {
         inside = r .inside;
         same = rw (r .cuts) (entries-whole 0 (cut bytes (take n text)) (cut bytes (drop n text)) (r .all) ∙ ap (λ (k : ℕ). entries isDamage k (cut bytes (drop n text))) (omega arith));

@@ -9,7 +9,8 @@ use native.Mathlib.Omega.{arith}
 use Rattle.theory.specs.Reader.{cut}
 use Rattle.theory.proofs.Cases.{split}
 use Rattle.theory.proofs.Divisions.{written-append}
-use Rattle.terms.specs.Form.{Form, pointOf, converted}
+use Rattle.terms.specs.Form.{Form, pointOf, repaired, converted}
+use Rattle.terms.proofs.ConvertsBack.{whole-none, repaired-same}
 use Rattle.terms.proofs.WalkBySegments.{part-is}
 use Rattle.terms.proofs.WalkWrites.{Passed, left}
 use Rattle.utf8.specs.Bytes.{bytes}
@@ -22,6 +23,10 @@ use Rattle.utf8_check.proofs.StandingIsWhole.{run-at}
 -- the form of a text is that of its run, and then that of the rest
 run-written : (text : List ℕ) (n : ℕ) → Run text n → (G : Form) → converted utf8 G text ≡ converted utf8 G (take n text) ++ converted utf8 G (drop n text)
 run-written text n r G = rw (r .cuts) (written-append (λ s. G .write (pointOf utf8 s)) (cut bytes (take n text)) (cut bytes (drop n text)))
+
+-- and repaired it is the run itself
+pub run-repaired : (text : List ℕ) (n : ℕ) → Run text n → repaired utf8 (take n text) ≡ take n text
+run-repaired text n r = repaired-same utf8 (take n text) (whole-none 0 (cut bytes (take n text)) (r .all))
 
 -- at any pace
 pub run-paced : (text : List ℕ) (pace : Pace) (n : ℕ) → n ≡ pacedRun text pace → Run text n

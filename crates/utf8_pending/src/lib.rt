@@ -41,10 +41,14 @@ fn is_zero(bytes: &[u8]) -> bool
     true
 }
 
-// Are these at most 3 pending bytes, empty or a proper beginning of a well-formed sequence, and the unused ones 0?
+// Are these at most 3 pending bytes, empty or a proper beginning of a well-formed sequence, and the unused ones 0? Mostly there are
+// none, and nothing is read.
 pub fn is_tail(held: [u8; Decoder::PENDING], n: usize) -> bool
     ensures { λ r. ⌜ r ≡ isTail held n ⌝ }
 {
+    if n == 0 {
+        return is_zero(&held);
+    }
     if Decoder::PENDING < n {
         return false;
     }

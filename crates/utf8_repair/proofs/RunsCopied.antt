@@ -3,28 +3,26 @@ use mathlib.Core.Path.{_≡_, sym, _∙_}
 use Prim.Native.Nat.{ℕ, _+_, _-_, _≤_}
 use mathlib.Core.List.{List, _++_}
 use lib.ListN.{length, take, drop}
-use lib.Seq.{take-length, length-take-le}
+use lib.Seq.{take-length}
 use native.Mathlib.Omega.{arith}
-use Rattle.theory.specs.Reader.{cut}
 use Rattle.terms.specs.Form.{repaired, converted}
-use Rattle.terms.proofs.ConvertsBack.{whole-none, repaired-same, repaired-converted}
+use Rattle.terms.proofs.ConvertsBack.{repaired-converted}
+use Rattle.terms.proofs.WalkBySegments.{part-to}
 use Rattle.terms.proofs.WalkWrites.{Passed, left, Counted, summed-on, Wrote, lent, back, filled-room, filled-on}
 use Rattle.copy.proofs.Copied.{copied-whole}
-use Rattle.utf8.specs.Bytes.{bytes}
 use Rattle.utf8.specs.Scalar.{utf8}
 use Rattle.utf8.proofs.FaithfulForm.{utf8-faithful}
 use Rattle.utf8_check.specs.Run.{wholeRun}
 use Rattle.utf8_check.specs.Pace.{pacedRun}
 use Rattle.utf8_check.specs.declared.pace.Pace.{Pace}
-use Rattle.utf8_check.proofs.RunDivides.{Run}
-use Rattle.utf8_check.proofs.RunsPassed.{run-there, passed-run}
+use Rattle.utf8_check.proofs.RunDivides.{Run, run-long}
+use Rattle.utf8_check.proofs.RunsPassed.{run-repaired, run-there, passed-run}
 use Rattle.utf8_check.proofs.StandingIsWhole.{run-at}
 
 -- the first n bytes of a text write themselves, where they are whole segments
 run-same : (text : List ℕ) (n : ℕ) → Run text n → converted utf8 utf8 (take n text) ≡ take n text
 run-same text n r =
-    sym (repaired-converted utf8-faithful (take n text))
-    ∙ repaired-same utf8 (take n text) (whole-none 0 (cut bytes (take n text)) (r .all))
+    sym (repaired-converted utf8-faithful (take n text)) ∙ run-repaired text n r
 
 -- a text with no damage
 module _ (text : List ℕ) (n : ℕ) (e : n ≡ wholeRun text) (h : n ≡ length text) where
@@ -40,7 +38,7 @@ module _ (text : List ℕ) (at : ℕ) (pace : Pace) (n : ℕ) (h : at ≤ length
   passed-bytes = rw (run-same (drop at text) n (run-there text at pace n h e)) at (passed-run text at pace n h e utf8)
 
   long : length (take n (drop at text)) ≡ n
-  long = length-take-le n (drop at text) (run-there text at pace n h e .inside)
+  long = run-long (drop at text) n (run-there text at pace n h e)
 
   pub counted-run : (total : ℕ) → Counted utf8 utf8 text at total → Counted utf8 utf8 text (at + n) (total + n)
   counted-run total c = rw long at (summed-on (left utf8 utf8 text) (length text) at total n (take n (drop at text)) c passed-bytes)
@@ -55,7 +53,6 @@ module _ (text : List ℕ) (at : ℕ) (pace : Pace) (n : ℕ) (h : at ≤ length
           → ys ≡ take (length (lent out done)) (take (at + n - at) (drop at text)) ++ drop (length (take (at + n - at) (drop at text))) (lent out done)
           → Wrote utf8 utf8 text out₀ (back out done ys) (at + n) (done + n)
       wrote-bytes ys e =
-          let k : at + n - at ≡ n = omega arith in
           let p : ys ≡ take n (drop at text) ++ drop (length (take n (drop at text))) (lent out done) =
-          copied-whole (take n (drop at text)) (lent out done) ys (rw long bytes-room) (rw k at e) in
+          copied-whole (take n (drop at text)) (lent out done) ys (rw long bytes-room) (rw (part-to text at n) at e) in
           rw long at (filled-on (left utf8 utf8 text) (length text) out₀ out at done w room n (take n (drop at text)) passed-bytes ys p)

@@ -254,7 +254,8 @@ fn slim_last(text: &[u8], at: usize, size: usize) -> usize
     at
 }
 
-// So many bytes of a text stand well: by wide blocks, where the slow test waits for some slim ones, as damage may be near.
+// So many bytes of a text stand well: by wide blocks, where the slow test waits for some slim ones, as damage may be near. There may be
+// more.
 fn wider(text: &[u8], from: usize) -> usize
     requires { ⌜ (3 ≤ from) × Good (now text) from ⌝ }
     ensures { λ r. ⌜ Good (now (text .entry)) r ⌝ }
@@ -270,7 +271,7 @@ fn wider(text: &[u8], from: usize) -> usize
 
 // So many bytes of a text of 19 or more stand well, with a last block over what is left: smaller blocks where the text is short.
 // There may be more.
-fn shrinking(text: &[u8], from: usize) -> usize
+fn by_length(text: &[u8], from: usize) -> usize
     requires { ⌜ (3 ≤ from) × Good (now text) from × (19 ≤ length (now text)) ⌝ }
     ensures { λ r. ⌜ Good (now (text .entry)) r ⌝ }
 {
@@ -318,8 +319,8 @@ fn ascii_blocks(text: &[u8], from: usize, size: usize) -> usize
     at
 }
 
-// So many bytes at the start of a text of 16 or more are below 0x80, by blocks as large as the text has room for; none of a longer
-// one where the first 64 are not. There may be more.
+// So many bytes at the start of a text of 16 or more are below 0x80: by blocks of 16 where it has fewer than 64, else by blocks of
+// 256 and 64, and none where the first 64 are not. There may be more.
 fn ascii(text: &[u8]) -> usize
     requires { ⌜ 16 ≤ length (now text) ⌝ }
     ensures { λ r. ⌜ Ascii (now (text .entry)) r ⌝ }
@@ -367,12 +368,12 @@ fn sure(text: &[u8]) -> usize
         return at;
     }
     if 3 <= at {
-        return shrinking(text, at);
+        return by_length(text, at);
     }
     if !right_first(text) {
         return 0;
     }
-    shrinking(text, 3)
+    by_length(text, 3)
 }
 
 // How many bytes at the start of a text stand well: byte by byte from a place up to which they do.

@@ -71,6 +71,17 @@ impl Tried<'_> {
     }
 }
 
+/// How many places a call needs.
+fn needed(state: Decoder, piece: Option<&[u8]>, room: usize) -> usize {
+    let roomy = Tried {
+        state,
+        piece,
+        out: usize::MAX,
+        list: 2 * room,
+    };
+    roomy.model().output.len()
+}
+
 /// Feeds and finish of one course, with refusals tried before calls; at the end the whole is what the text's definition says.
 pub fn repair_course(run: &mut Run, course: &Course) {
     let room = course.room;
@@ -81,15 +92,7 @@ pub fn repair_course(run: &mut Run, course: &Course) {
     let pieces: Vec<Option<&[u8]>> = course.pieces().map(Some).chain([None]).collect();
     let mut totals = vec![];
     for (i, &piece) in pieces.iter().enumerate() {
-        let need = Tried {
-            state,
-            piece,
-            out: usize::MAX,
-            list: 2 * room,
-        }
-        .model()
-        .output
-        .len();
+        let need = needed(state, piece, room);
         let mut trial = |out: usize, lent: usize| {
             run.cases += 1;
             let tried = Tried {

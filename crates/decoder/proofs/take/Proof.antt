@@ -8,7 +8,6 @@ use lib.Dec.{eqb}
 use native.Mathlib.Omega.{arith}
 use Rattle.theory.proofs.Cases.{split}
 use Rattle.terms.specs.declared.Decoder.{Decoder}
-use Rattle.utf8_pending.specs.declared.Seam.{Seam}
 use Rattle.utf8_pending.proofs.HeldInPlaces.{seam-found}
 use Rattle.decoder.specs.State.{left}
 use Rattle.decoder.specs.Inside.Steps.{seamed, seamWith}

@@ -18,16 +18,26 @@ use Rattle.utf8_pending.proofs.is_tail.Tie as tie
 three : (c : tie.Start) → length (c .args .t1) ≡ mostPending
 three c = c .good .0 .1 .0 .1
 
+slice-aggregate-is-zero : tie.Need-slice-aggregate-is-zero
+slice-aggregate-is-zero c = search needs
+
+is-zero-requires : tie.Need-is-zero-requires
+is-zero-requires c κs = search needs
+
 returns : tie.Need-returns
-returns c = tail-long (c .before .args .t1) (c .before .args .n) (c .if1 .taken)
+returns c = rw (c .before .before .if1 .taken) (c .is-zero .ensures)
+
+returns-2 : tie.Need-returns-2
+returns-2 c = let z = c .before .before in tail-long (z .args .t1) (z .args .n) (c .if2 .taken)
 
 array-share-prefix-held : tie.Need-array-share-prefix-held
 array-share-prefix-held c = search needs
 
 slice-aggregate-segment : tie.Need-slice-aggregate-segment
 slice-aggregate-segment c =
-    let a = c .before .before .args in
-    let h : a .n ≤ length (a .t1) = omega (arith, three (c .before .before)) in
+    let z = c .before .before .before in
+    let a = z .args in
+    let h : a .n ≤ length (a .t1) = omega (arith, three z) in
     sym (length-take-le (a .n) (a .t1) h)
 
 segment-requires : tie.Need-segment-requires
@@ -38,18 +48,18 @@ settled-size-requires c κs = search needs
 
 -- how many of the pending bytes are settled
 size-is : (c : tie.After-settled-size)
-    → let a = c .before .before .before .before .args in c .settled-size .result ≡ total size (firstSettled (take (a .n) (a .t1)))
+    → let a = c .before .before .before .before .before .args in c .settled-size .result ≡ total size (firstSettled (take (a .n) (a .t1)))
 size-is c =
     let s = c .before in
-    let a = s .before .before .before .args in
+    let a = s .before .before .before .before .args in
     c .settled-size .ensures ∙ told-size (s .segment .result) (take (a .n) (a .t1)) (s .segment .ensures)
 
-returns-2 : tie.Need-returns-2
-returns-2 c =
+returns-3 : tie.Need-returns-3
+returns-3 c =
     let s = c .before in
     let e = s .before .before .before in
-    let a = e .before .args in
-    tail-settled (a .t1) (a .n) (e .if1 .left) (pending-some (take (a .n) (a .t1)) (λ z. c .if2 .taken (size-is s ∙ z)))
+    let a = e .before .before .args in
+    tail-settled (a .t1) (a .n) (e .if2 .left) (pending-some (take (a .n) (a .t1)) (λ z. c .if3 .taken (size-is s ∙ z)))
 
 part-is-zero-start : tie.Need-part-is-zero-start
 part-is-zero-start c = search needs
@@ -57,31 +67,34 @@ part-is-zero-start c = search needs
 part-is-zero-end : tie.Need-part-is-zero-end
 part-is-zero-end c = search needs
 
-is-zero-requires : tie.Need-is-zero-requires
-is-zero-requires c κs = search needs
+is-zero-requires-2 : tie.Need-is-zero-requires-2
+is-zero-requires-2 c κs = search needs
 
-returns-3 : tie.Need-returns-3
-returns-3 c =
+returns-4 : tie.Need-returns-4
+returns-4 c =
     let g = c .before .before .before in
     let s = g .before in
     let e = s .before .before .before in
-    let z = e .before in
+    let z = e .before .before in
     let a = z .args in
     let p : take (mostPending - a .n) (drop (a .n) (a .t1)) ≡ drop (a .n) (a .t1)
     = take-all (mostPending - a .n) (drop (a .n) (a .t1)) (omega (arith, three z, length-drop (a .n) (a .t1))) in
-    c .is-zero .ensures ∙ ap zeros p ∙ tail-rest (a .t1) (a .n) (e .if1 .left) (pending-none (take (a .n) (a .t1)) (sym (size-is s) ∙ g .if2 .left))
+    c .is-zero2 .ensures ∙ ap zeros p ∙ tail-rest (a .t1) (a .n) (e .if2 .left) (pending-none (take (a .n) (a .t1)) (sym (size-is s) ∙ g .if3 .left))
 
 pub is-tail-spec : {M : Type 1} → statement M
 is-tail-spec =
     tie.close
     (tie.spec
+    slice-aggregate-is-zero
+    is-zero-requires
     returns
+    returns-2
     array-share-prefix-held
     slice-aggregate-segment
     segment-requires
     settled-size-requires
-    returns-2
+    returns-3
     part-is-zero-start
     part-is-zero-end
-    is-zero-requires
-    returns-3)
+    is-zero-requires-2
+    returns-4)

@@ -15,8 +15,8 @@ ascii-requires c κs = search needs
 returns-2 : tie.Need-returns-2
 returns-2 c = good-ascii _ _ (c .before .ascii .ensures)
 
-shrinking-requires : tie.Need-shrinking-requires
-shrinking-requires c κs = (c .if3 .taken, good-ascii _ _ (c .before .before .ascii .ensures), c .before .before .before .if1 .left)
+by-length-requires : tie.Need-by-length-requires
+by-length-requires c κs = (c .if3 .taken, good-ascii _ _ (c .before .before .ascii .ensures), c .before .before .before .if1 .left)
 
 returns-3 : tie.Need-returns-3
 returns-3 c = search needs
@@ -27,8 +27,8 @@ right-first-requires c κs = search needs
 returns-4 : tie.Need-returns-4
 returns-4 c = good-none _
 
-shrinking-requires-2 : tie.Need-shrinking-requires-2
-shrinking-requires-2 c κs = (omega arith, c .before .right-first .ensures (not-false _ (c .if4 .left)), c .before .before .before .before .before .if1 .left)
+by-length-requires-2 : tie.Need-by-length-requires-2
+by-length-requires-2 c κs = (omega arith, c .before .right-first .ensures (not-false _ (c .if4 .left)), c .before .before .before .before .before .if1 .left)
 
 returns-5 : tie.Need-returns-5
 returns-5 c = search needs
@@ -40,9 +40,9 @@ sure-spec =
     returns
     ascii-requires
     returns-2
-    shrinking-requires
+    by-length-requires
     returns-3
     right-first-requires
     returns-4
-    shrinking-requires-2
+    by-length-requires-2
     returns-5)

@@ -6,11 +6,11 @@ use borrow.Author.Needs.{needs}
 use Rattle.decoder.proofs.checks.is_sound.Statement.{statement}
 use Rattle.decoder.proofs.checks.is_sound.Tie as tie
 
-is-pending-requires : tie.Need-is-pending-requires
-is-pending-requires c κs = search needs
+is-tail-requires : tie.Need-is-tail-requires
+is-tail-requires c κs = search needs
 
 returns : tie.Need-returns
-returns c = sound-not (c .before .before .args .state) (sym (c .before .is-pending .ensures) ∙ not-true _ (c .if1 .taken))
+returns c = sound-not (c .before .before .before .args .state) (sym (c .before .is-tail .ensures) ∙ not-true _ (c .if1 .taken))
 
 is-balanced-requires : tie.Need-is-balanced-requires
 is-balanced-requires c κs = search needs
@@ -18,7 +18,7 @@ is-balanced-requires c κs = search needs
 returns-2 : tie.Need-returns-2
 returns-2 c =
     let t = c .before .before in
-    c .is-balanced .ensures ∙ sound-rest (t .before .args .state) (sym (t .is-pending .ensures) ∙ not-false _ (c .before .if1 .left))
+    c .is-balanced .ensures ∙ sound-rest (t .before .before .args .state) (sym (t .is-tail .ensures) ∙ not-false _ (c .before .if1 .left))
 
 pub is-sound-spec : {M : Type 1} → statement M
-is-sound-spec = tie.close (tie.spec is-pending-requires returns is-balanced-requires returns-2)
+is-sound-spec = tie.close (tie.spec is-tail-requires returns is-balanced-requires returns-2)

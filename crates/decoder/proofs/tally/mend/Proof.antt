@@ -1,12 +1,8 @@
--- `tally::mend` meets its contract: U+FFFD is copied behind what is written, and the damage is entered.
-use Prim.Native.Nat.{_+_, _≤_}
-use mathlib.Core.Path.{_≡_, _∙_}
-use mathlib.Core.List.{_++_}
-use lib.ListN.{length, drop}
+-- `tally::mend` meets its contract: U+FFFD is put behind what is written, and the damage is entered.
+use Prim.Native.Nat.{_+_}
+use mathlib.Core.Path.{_∙_}
 use Rattle.terms.specs.Form.{replacement}
-use Rattle.terms.proofs.WalkWrites.{lent}
 use Rattle.utf8.specs.Scalar.{utf8}
-use Rattle.copy.proofs.Copied.{copied-whole}
 use Rattle.decoder.proofs.SegmentsAct.{put-reached, put-lent}
 use borrow.Author.Needs.{needs}
 use Rattle.decoder.proofs.tally.mend.Statement.{statement}

@@ -1,14 +1,12 @@
 -- `tally::pass` meets its contract: the run is copied behind what is written.
-use Prim.Native.Nat.{ℕ, _+_, _≤_}
+use Prim.Native.Nat.{_+_, _≤_}
 use mathlib.Core.Path.{_≡_}
-use mathlib.Core.List.{List, [], _∷_, _++_}
-use native.Mathlib.Nat.{add-zero}
+use mathlib.Core.List.{_++_}
 use lib.ListN.{length, drop}
 use native.Mathlib.Omega.{arith}
 use Rattle.terms.proofs.WalkWrites.{lent}
 use Rattle.copy.proofs.Copied.{copied-whole}
-use Rattle.decoder.specs.Inside.Acting.{work, logOf, reached, passed}
-use Rattle.decoder.specs.declared.tally.Tally.{Tally}
+use Rattle.decoder.specs.Inside.Acting.{work}
 use Rattle.decoder.proofs.SegmentsAct.{passed-none, put-reached, put-lent}
 use borrow.Author.Needs.{needs}
 use Rattle.decoder.proofs.tally.pass.Statement.{statement}

@@ -1,7 +1,6 @@
 -- `walk::lacking` meets its contract: three places for each byte are always enough, and else the need is counted.
-use Prim.Native.Nat.{ℕ, _+_, _*_, _≤_}
+use Prim.Native.Nat.{_+_}
 use mathlib.Core.Path.{_≡_, sym, _∙_}
-use lib.ListN.{length}
 use borrow.Author.Tests.{lt-ltb, le-ltb}
 use native.Mathlib.Omega.{arith}
 use Rattle.theory.specs.Reader.{parts}
@@ -25,7 +24,7 @@ returns : tie.Need-returns
 returns c =
     let p = c .before in
     let a = p .before .before .args in
-    sym (rw (le-ltb (a .most) (places (a .seg) + need (parts bytes (a .text .now) .done)) (omega (arith, p .places .ensures, c .if1 .taken, parts-small (a .text .now)))))
+    sym (rw (le-ltb (a .given) (places (a .seg) + need (parts bytes (a .text .now) .done)) (omega (arith, p .places .ensures, c .if1 .taken, parts-small (a .text .now)))))
 
 need-of-requires : tie.Need-need-of-requires
 need-of-requires c κs = search needs
@@ -46,13 +45,13 @@ returns-2 : tie.Need-returns-2
 returns-2 c =
     let n = c .before in
     let a = n .before .before .before .before .args in
-    needed-is n ∙ sym (rw (lt-ltb (a .most) (places (a .seg) + need (parts bytes (a .text .now) .done)) (rw (needed-is n) at (c .if2 .taken))))
+    needed-is n ∙ sym (rw (lt-ltb (a .given) (places (a .seg) + need (parts bytes (a .text .now) .done)) (rw (needed-is n) at (c .if2 .taken))))
 
 returns-3 : tie.Need-returns-3
 returns-3 c =
     let n = c .before in
     let a = n .before .before .before .before .args in
-    sym (rw (le-ltb (a .most) (places (a .seg) + need (parts bytes (a .text .now) .done)) (rw (needed-is n) at (c .if2 .left))))
+    sym (rw (le-ltb (a .given) (places (a .seg) + need (parts bytes (a .text .now) .done)) (rw (needed-is n) at (c .if2 .left))))
 
 pub lacking-spec : {M : Type 1} → statement M
 lacking-spec = tie.close (tie.spec places-requires mul-if1 add-if1 returns need-of-requires add-needed returns-2 returns-3)

@@ -1,5 +1,5 @@
 -- `walk::need_of` meets its contract: so much is counted, and the rest adds what is left.
-use Prim.Native.Nat.{_+_, _-_, _*_, _≤_}
+use Prim.Native.Nat.{_+_, _-_}
 use mathlib.Core.Path.{sym, _∙_}
 use lib.ListN.{length, drop}
 use native.Mathlib.Omega.{arith}

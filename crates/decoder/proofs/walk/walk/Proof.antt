@@ -1,20 +1,20 @@
 -- `walk::walk` meets its contract: so much has acted, and what is settled of the rest is still to act.
-use Prim.Native.Nat.{ℕ, _+_, _-_, _≤_}
+use Prim.Native.Nat.{ℕ, _+_, _-_}
 use mathlib.Core.Path.{_≡_, refl, sym, _∙_}
-use lib.ListN.{length, take, drop}
+use lib.ListN.{length, drop}
 use lib.Seq.{length-take-le}
 use native.Mathlib.Nat.{zero-add}
 use native.Mathlib.Omega.{arith}
 use borrow.Author.Needs.{needs}
 use Rattle.theory.specs.Reader.{parts}
-use Rattle.terms.proofs.WalkBySegments.{part-is}
+use Rattle.terms.proofs.WalkBySegments.{part-is, part-to}
 use Rattle.utf8.specs.Bytes.{bytes}
 use Rattle.utf8_check.proofs.RunDivides.{Run}
 use Rattle.utf8_check.proofs.RunsPassed.{run-there}
 use Rattle.utf8_check.proofs.StandingIsWhole.{run-at}
 use Rattle.decoder.specs.Inside.Acting.{Work, work, Ready, acted}
 use Rattle.decoder.proofs.SettledByReader.{Told, told, stands}
-use Rattle.decoder.proofs.SettledWalk.{Turn, told-turn, run, run-turn, run-fits, run-acted, run-part}
+use Rattle.decoder.proofs.SettledWalk.{Turn, told-turn, run, run-turn, run-fits, run-acted}
 use Rattle.decoder.proofs.SettledWalk.{Walked, walked-start, walked-ready, walked-next, walked-rest, walked-end, settled-behind}
 use Rattle.decoder.proofs.walk.walk.Statement.{statement}
 use Rattle.decoder.proofs.walk.walk.Tie as tie
@@ -190,8 +190,8 @@ turn : (c : tie.After-paced-run Inv-loop μ-loop)
     let t = a .before .before .before .before in
     let l = t .before .before .before in
     let text = start l .args .text .now in
-    let from = l .loop .at + t .settled-size .result in
-    Turn text from (c .paced-run .result) (c .paced-run .result) (run text from (c .paced-run .result))
+    let at = l .loop .at + t .settled-size .result in
+    Turn text at (c .paced-run .result) (c .paced-run .result) (run text at (c .paced-run .result))
 turn c =
     let a = c .before .before .before .before .before .before .before in
     let t = a .before .before .before .before in
@@ -221,7 +221,7 @@ pass-requires-2 c κs =
     let l = t .before .before .before in
     let text = start l .args .text .now in
     let at = l .loop .at + t .settled-size .result in
-    rw (run-part text at (r .paced-run .result))
+    rw (part-to text at (r .paced-run .result))
     (run-fits text at (r .paced-run .result) (behind a .inside) (next r) (start l .args .room) _
     (walked-ready _ _ _ _ (l .loop .inv .2) _ _ (behind a) (turn r)))
 
@@ -243,7 +243,7 @@ ran q =
     let list = a .act .last .1 .1 .1 .1 .1 .0 in
     walked-next _ _ _ _ (l .loop .inv .2) _ _ (behind a) (turn r) _
     (run-acted text at (r .paced-run .result) (behind a .inside) (next r) (start l .args .room) (work (a .act .result) (a .act .last .1 .1 .1 .1 .0) list) _
-    (rw (run-part text at (r .paced-run .result)) at (q .pass2 .ensures list)))
+    (rw (part-to text at (r .paced-run .result)) at (q .pass2 .ensures list)))
 
 loop-less : tie.Need-loop-less Inv-loop μ-loop
 loop-less c =
