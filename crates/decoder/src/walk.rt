@@ -17,7 +17,7 @@ pub(crate) struct Settled {
     pub size: usize,
 }
 
-// The segment that stands first in a text: a first byte below 0xC2 tells it by itself, and most damage begins with one.
+// The segment that stands first in a text: a first byte below 0xC2 or from 0xF5 on tells it by itself, and most damage begins with one.
 fn first_of(text: &[u8]) -> First
     ensures { λ r. ⌜ toldFirst r ≡ firstSays bytes (now (text .entry)) ⌝ }
 {
@@ -29,6 +29,9 @@ fn first_of(text: &[u8]) -> First
         return First::Whole(1);
     }
     if a < 0xC2 {
+        return First::Damage(1);
+    }
+    if 0xF5 <= a {
         return First::Damage(1);
     }
     utf8::segment(text)

@@ -1,4 +1,4 @@
--- The segment that stands first in a byte text, where its first byte tells it: one byte below 0x80, or from 0x80 to 0xC1.
+-- The segment that stands first in a byte text, where its first byte tells it: one below 0x80, or one that begins no sequence.
 use mathlib.Core.Path.{_≡_, refl, sym}
 use Prim.Native.Nat.{ℕ, _≤_, _<_}
 use mathlib.Core.List.{List, []}
@@ -19,9 +19,15 @@ module _ (text : List ℕ) (some : 0 < length text) where
       let b = at-row 0 (row (0x00 to 0x7F) []) refl (getD text 0 0) (omega arith) in
       sym (first-begun text some (Begins 0 0x80 0xBF) b 0 0x80 0xBF refl)
 
-  -- from 0x80 to 0xC1 no sequence begins
+  -- from 0x80 to 0xC1 no sequence begins, nor from 0xF5 on
   pub told-alone : 0x80 ≤ getD text 0 0 → getD text 0 0 < 0xC2 → toldFirst (Damage 1) ≡ firstSays bytes text
   unfolding rows
   told-alone l h =
       let b = at-none 1 refl (getD text 0 0) (omega arith) in
+      first-alone text some Alone b refl
+
+  pub told-past : 0xF5 ≤ getD text 0 0 → toldFirst (Damage 1) ≡ firstSays bytes text
+  unfolding rows
+  told-past l =
+      let b = at-none 9 refl (getD text 0 0) (omega arith) in
       first-alone text some Alone b refl
