@@ -1,21 +1,20 @@
 -- The walks over the settled segments of a text, by runs of whole segments and one segment behind each: the one that counts, and the
 -- one in which each acts.
 use mathlib.Core.Path.{_≡_, refl, sym, ap, subst, _∙_}
-use Prim.Native.Nat.{ℕ, _+_, _-_, _*_, _≤_}
+use Prim.Native.Nat.{ℕ, _+_, _*_, _≤_}
 use native.Mathlib.Nat.{zero-add}
 use mathlib.Core.List.{List, [], _++_, foldl, append-assoc, append-nil}
 use lib.ListN.{length, take, drop, length-drop}
-use lib.Seq.{drop-drop, length-take-le}
+use lib.Seq.{drop-drop}
 use native.Mathlib.Omega.{arith}
 use Rattle.theory.specs.Reader.{Segment, Parts, cut, parts}
 use Rattle.theory.specs.Table.{Kind, isDamage}
 use Rattle.theory.specs.Tally.{total, size, Log}
 use Rattle.theory.proofs.Divisions.{total-append, cut-size}
 use Rattle.theory.proofs.WholeRuns.{run-logged}
-use Rattle.terms.specs.Form.{repaired, mend}
+use Rattle.terms.specs.Form.{mend}
 use Rattle.terms.specs.Limits.{limit, entryWidth}
 use Rattle.terms.specs.declared.First.{First}
-use Rattle.terms.proofs.ConvertsBack.{whole-none, repaired-same}
 use Rattle.utf8.specs.Bytes.{bytes}
 use Rattle.utf8.specs.Scalar.{utf8}
 use Rattle.utf8_check.proofs.RunDivides.{Run, run-long, run-size, run-whole, run-settles}

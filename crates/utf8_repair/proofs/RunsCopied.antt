@@ -4,7 +4,6 @@ use Prim.Native.Nat.{ℕ, _+_, _-_, _≤_}
 use mathlib.Core.List.{List, _++_}
 use lib.ListN.{length, take, drop}
 use lib.Seq.{take-length}
-use native.Mathlib.Omega.{arith}
 use Rattle.terms.specs.Form.{repaired, converted}
 use Rattle.terms.proofs.ConvertsBack.{repaired-converted}
 use Rattle.terms.proofs.WalkBySegments.{part-to}
