@@ -23,10 +23,11 @@ use Rattle.utf8.proofs.RowsOfBytes.{bytes-division, bytes-hold}
 use Rattle.utf8_pending.specs.Tail.{firstSettled, four}
 use Rattle.utf8_pending.proofs.SettledFirst.{settled-nil, settled-sure, settled-open}
 use Rattle.utf8_pending.proofs.SeamIsFirst.{seam-pending, seam-over, seam-inside, seam-behind}
+use Rattle.decoder_shared.specs.Decoding.{numbers}
 use Rattle.decoder.specs.Inside.Acting.{need}
 use Rattle.decoder.proofs.SettledPlaces.{need-append, parts-small}
 use Rattle.decoder.proofs.TestsAsFacts.{sound-is}
-use Rattle.decoder.specs.State.{left, sound, numbers, opened, fed, ended}
+use Rattle.decoder.specs.State.{left, sound, opened, fed, ended}
 use Rattle.decoder.specs.Room.{mostFed}
 
 -- the places of U+FFFD

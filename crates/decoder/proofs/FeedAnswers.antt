@@ -1,4 +1,4 @@
--- What a feed answers: each way through its checks meets the promise.
+-- What a feed answers, once it may take its piece.
 use mathlib.Core.Path.{_≡_, refl, sym, subst, _∙_}
 use Prim.Native.Nat.{ℕ, _+_, _*_, _≤_, _<_}
 use native.Mathlib.Nat.{zero-add}
@@ -12,23 +12,17 @@ use Rattle.theory.specs.Table.{Kind}
 use Rattle.theory.specs.Tally.{total, size, Log}
 use Rattle.theory.proofs.Divisions.{total-append, parts-size}
 use Rattle.terms.specs.Limits.{limit}
-use Rattle.terms.specs.Told.{toldRefusal}
 use Rattle.terms.specs.Writing.{roomed}
 use Rattle.terms.specs.declared.Decoder.{Decoder}
 use Rattle.terms.specs.declared.First.{First}
-use Rattle.terms.specs.declared.Refusal.{Refusal}
 use Rattle.terms.specs.declared.Refusal.the-variants.{NoRoom}
 use Rattle.terms.specs.declared.Written.the-variants.{Count, Refused}
-use Rattle.terms.proofs.ToldBack.{no-zero}
 use Rattle.utf8.specs.Bytes.{bytes}
 use Rattle.utf8_pending.specs.Tail.{firstSettled, settledSize}
-use Rattle.decoder.specs.Checks.{admitSays}
-use Rattle.decoder.specs.State.{opened, fed}
-use Rattle.decoder.specs.Feeding.{Feeds}
+use Rattle.decoder_shared.proofs.FeedAnswers as any
+use Rattle.decoder.specs.State.{byteDecoding, opened, fed}
 use Rattle.decoder.specs.Inside.Acting.{need, places, toldOf, Stands, Work, work, reached, Fits, Ready, acted}
 use Rattle.decoder.specs.Inside.Steps.{tallyOf, keeping, Rests, behind, Answers}
-use Rattle.decoder.specs.declared.Fed.{Fed}
-use Rattle.decoder.proofs.ChecksInOrder.{admits, admitted-then, refused-so}
 use Rattle.decoder.proofs.SettledPlaces.{need-append, need-small}
 use Rattle.decoder.proofs.SettledByReader.{Told, told, stands}
 use Rattle.decoder.proofs.SegmentsAct.{logs-long, acted-append, ready-front, ready-behind}
@@ -61,7 +55,7 @@ pub answers-still : (d : Decoder) (taken : ℕ) (piece out list seam : List ℕ)
     → Answers d taken (fed d piece list) out list out list (record { answer = Count 0; state = q })
 answers-still d taken piece out list seam q e held =
     subst (λ (s : State Log). Answers d taken s out list out list (record { answer = Count 0; state = q })) (sym e)
-    (answers-done d taken (record { left = seam; kept = opened d list .kept }) out list (work (tallyOf d) out list) q refl (omega arith) held)
+    (any.answers-still byteDecoding d taken seam out list q held)
 
 -- ---- the settled segment of a seam, and then a text
 
@@ -119,19 +113,3 @@ module _ (d : Decoder) (seg : First) (seam rest list : List ℕ) (p : Rests d se
         behind-done w f q held =
             let g : w ≡ acted (d .room) all begins = f ∙ rw seam-acted (acted-append (d .room) (firstSettled seam) (parts bytes rest .done) begins) in
             answers-done d taken (behind d seam rest list) out list w q g (omega (arith, h, needs _ refl)) held
-
--- ---- the checks before
-
-module _ (d : Decoder) (piece out list : List ℕ) where
-  pub feed-refused : (r : Refusal) → toldRefusal r ≡ admitSays d (length piece) (length list)
-      → Feeds d piece out list out list (record { answer = Refused r; state = d })
-  feed-refused r q =
-      let e = refused-so d (length piece) (length list) r q (roomed (length out) (fed d piece list .kept .out)) in
-      record { answer = e; state = rw (← e, no-zero r); output = rw (← e, no-zero r); entries = rw (← e, no-zero r) }
-
-  pub feed-granted : admitSays d (length piece) (length list) ≡ 0 ∷ [] → (out′ list′ : List ℕ) (r : Fed)
-      → Answers d (d .taken + length piece) (fed d piece list) out list out′ list′ r → Feeds d piece out list out′ list′ r
-  feed-granted g out′ list′ r a =
-      let says = admitted-then d (length piece) (length list) (roomed (length out) (fed d piece list .kept .out))
-      (admits d (length piece) (length list) (sym g)) in
-      record { answer = rw says (a .answer); state = rw says (a .state); output = rw says (a .output); entries = rw says (a .entries) }

@@ -7,10 +7,10 @@ use Rattle.terms.specs.Limits.{limit}
 use Rattle.terms.specs.Told.{toldWritten, isGranted, ifGranted}
 use Rattle.terms.specs.declared.Decoder.{Decoder}
 use Rattle.terms.specs.declared.Written.the-variants.{Count}
-use Rattle.decoder.specs.State.{fed, closed}
+use Rattle.decoder_shared.proofs.AnyCutting.{feed-grants}
+use Rattle.decoder.specs.State.{byteDecoding, fed, closed}
 use Rattle.decoder.specs.Feeding.{feedSays, Feeds}
 use Rattle.decoder.specs.declared.Fed.{Fed}
-use Rattle.decoder.proofs.AnyCutting.{feed-grants}
 
 module _ {d : Decoder} {piece out list out′ list′ : List ℕ} {r : Fed} (f : Feeds d piece out list out′ list′ r) (n : ℕ) (e : r .answer ≡ Count n) where
   says : feedSays d piece out list ≡ 0 ∷ n ∷ []
@@ -28,6 +28,6 @@ module _ {d : Decoder} {piece out list out′ list′ : List ℕ} {r : Fed} (f :
 
   pub granted : Granted
   granted =
-      let g = feed-grants d piece out list (ap isGranted says) in
+      let g = feed-grants byteDecoding d piece out list (ap isGranted says) in
       let m : n ≡ length (fed d piece list .kept .out) = ap (λ (l : List ℕ). getD l 1 0) (sym says ∙ g .says) in
       record { within = g .admits .within; fits = rw m (g .fits) }

@@ -1,13 +1,13 @@
 -- Segments act: one run of them behind another does what the log of both says, and what is enough for both is enough for each
 pub mod SegmentsAct
--- What a feed answers: each way through its checks meets the promise
+-- What a feed answers, once it may take its piece
 pub mod FeedAnswers
 -- A piece behind what is pending
 pub mod SeamSettled
--- What finish answers: pending bytes are one damage, and each way through its checks meets the promise
+-- What finish answers: pending bytes are one damage, for which U+FFFD is written
 pub mod FinishAnswers
--- Many calls by one caller: the cutting of the text does not matter, and the state always passes its tests
-pub mod AnyCutting
+-- The decoder of bytes is lawful: so the cutting of a text does not matter, and the state always passes its tests
+pub mod BytesLawful
 -- What a granted feed has taken and written: the piece, within the limit, and places within the output
 pub mod GrantedFeedTakes
 -- What a feed keeps, apart from the list: the state that it hands back, and the state of pieces one by one
@@ -20,11 +20,7 @@ pub mod OneAnswer
 pub mod Enough
 -- The tests of a state, as facts about its numbers
 pub mod TestsAsFacts
--- The checks before a call: each way through them, and what a granted one says
-pub mod ChecksInOrder
--- An entry in the list: it is stored where there is room for it
-pub mod EntryStored
--- What is settled of a text: what is left stands behind it, and it takes at most three places for each byte; and what is lacking of them
+-- What is settled of a text takes at most three places for each byte; and what is lacking of them
 pub mod SettledPlaces
 -- What the reader told of a text is the settled segment that stands first in it, with its bytes and its places
 pub mod SettledByReader

@@ -20,10 +20,10 @@ use Rattle.utf8.specs.Bytes.{bytes}
 use Rattle.utf8_pending.specs.Tail.{firstSettled, four}
 use Rattle.utf8_pending.proofs.SettledFirst.{settled-nil}
 use Rattle.utf8_pending.proofs.SeamIsFirst.{seam-pending, seam-over, seam-inside, seam-behind}
+use Rattle.decoder_shared.proofs.ChecksInOrder.{Admits, admits}
 use Rattle.decoder.specs.Checks.{admitSays}
 use Rattle.decoder.proofs.TestsAsFacts.{Sound, sound-is}
-use Rattle.decoder.proofs.ChecksInOrder.{Admits, admits}
-use Rattle.decoder.specs.State.{left, act, opened, fed}
+use Rattle.decoder.specs.State.{left, byteDecoding, act, opened, fed}
 use Rattle.decoder.specs.Inside.Steps.{seamed, Rests, behind}
 
 -- the pending bytes of a state that passes its tests
@@ -36,8 +36,8 @@ streamed d list p = record { left = p .left; kept = foldl (act (d .room)) (opene
 
 module _ (d : Decoder) (piece list seam : List ℕ) (g : admitSays d (length piece) (length list) ≡ 0 ∷ []) (seam-is : seam ≡ seamed d piece)
     (three : length (d .held) ≡ mostPending) where
-  granted : Admits d (length piece) (length list)
-  granted = admits d (length piece) (length list) (sym g)
+  granted : Admits byteDecoding d (length piece) (length list)
+  granted = admits byteDecoding d (length piece) (length list) (sym g)
 
   passes : Sound d
   passes = sound-is d (granted .tests)

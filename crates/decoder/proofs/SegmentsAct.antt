@@ -16,7 +16,8 @@ use Rattle.terms.specs.Limits.{entryWidth}
 use Rattle.terms.proofs.WalkBySegments.{part-is}
 use Rattle.terms.proofs.WalkWrites.{lent, back, back-is}
 use Rattle.utf8.specs.Scalar.{utf8}
-use Rattle.decoder.specs.State.{numbers, act}
+use Rattle.decoder_shared.specs.Decoding.{numbers}
+use Rattle.decoder.specs.State.{act}
 use Rattle.decoder.specs.Inside.Acting.{need, segmentOf, Work, work, logOf, reached, Ready, acted, passed, mended}
 use Rattle.decoder.specs.declared.tally.Tally.{Tally}
 use Rattle.decoder.proofs.SettledPlaces.{need-append}

@@ -1,18 +1,17 @@
--- What is settled of a text: what is left stands behind it, and it takes at most three places for each byte; and what is lacking of them.
-use mathlib.Core.Path.{_≡_, sym, ap, _∙_}
+-- What is settled of a text takes at most three places for each byte; and what is lacking of them.
+use mathlib.Core.Path.{_≡_, _∙_}
 use Prim.Native.Nat.{ℕ, _+_, _*_, _≤_, _<_}
 use native.Mathlib.Nat.{mul-add}
 use mathlib.Core.List.{List, [], _∷_, _++_}
-use lib.ListN.{length, drop, length-append}
-use lib.Seq.{drop-at}
+use lib.ListN.{length, length-append}
 use lib.Dec.{ltb}
 use borrow.Author.Tests.{ltb-true, ltb-false}
 use native.Mathlib.Omega.{arith}
-use Rattle.theory.specs.Reader.{Segment, body, parts}
+use Rattle.theory.specs.Reader.{Segment, parts}
 use Rattle.theory.specs.Table.{Kind, isDamage}
-use Rattle.theory.specs.Tally.{written, total, size}
+use Rattle.theory.specs.Tally.{total, size}
 use Rattle.theory.proofs.Cases.{split}
-use Rattle.theory.proofs.Divisions.{written-append, length-written, parts-text, parts-size}
+use Rattle.theory.proofs.Divisions.{written-append, parts-size}
 use Rattle.terms.specs.Form.{mend}
 use Rattle.utf8.specs.Bytes.{bytes}
 use Rattle.utf8.specs.Scalar.{utf8}
@@ -30,16 +29,6 @@ need-small (s ∷ ss) = rw (length-append, mul-add) (omega (arith, mend-small s,
 
 pub parts-small : (text : List ℕ) → need (parts bytes text .done) ≤ 3 * length text
 parts-small text = omega (arith, need-small (parts bytes text .done), parts-size bytes text)
-
-module _ (text : List ℕ) where
-  pub done-inside : total size (parts bytes text .done) ≤ length text
-  done-inside = omega (arith, parts-size bytes text)
-
-  pub done-left : drop (total size (parts bytes text .done)) text ≡ parts bytes text .left
-  done-left =
-      let done = written body (parts bytes text .done) in
-      ap (drop (total size (parts bytes text .done))) (sym (parts-text bytes text))
-      ∙ drop-at done (parts bytes text .left) (total size (parts bytes text .done)) (length-written body (parts bytes text .done))
 
 -- ---- what is lacking: something where so many places are too few, and nothing where they are enough
 

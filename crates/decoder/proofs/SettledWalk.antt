@@ -21,7 +21,8 @@ use Rattle.utf8_check.proofs.RunDivides.{Run, run-long, run-size, run-whole, ru
 use Rattle.utf8_check.proofs.RunsPassed.{run-repaired}
 use Rattle.utf8_pending.specs.Tail.{firstSettled, settledSize}
 use Rattle.utf8_pending.proofs.SettledFirst.{settled-parts, settled-inside, settled-none}
-use Rattle.decoder.specs.State.{numbers, act}
+use Rattle.decoder_shared.specs.Decoding.{numbers}
+use Rattle.decoder.specs.State.{act}
 use Rattle.decoder.specs.Inside.Acting.{need, places, Work, logOf, reached, Fits, Ready, acted, passed, Settles}
 use Rattle.decoder.proofs.SettledPlaces.{need-append, parts-small}
 use Rattle.decoder.proofs.SegmentsAct.{acted-append, acted-none, ready-front, ready-behind}

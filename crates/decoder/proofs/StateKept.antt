@@ -22,21 +22,21 @@ use Rattle.utf8.specs.Pending.{zeros, padded}
 use Rattle.utf8.specs.Scalar.{utf8}
 use Rattle.utf8.proofs.RowsOfBytes.{bytes-division, damage-short}
 use Rattle.utf8_pending.proofs.SettledFirst.{left-kept, left-tail}
+use Rattle.decoder_shared.specs.Decoding.{numbers}
 use Rattle.decoder.proofs.TestsAsFacts.{Sound, is-sound}
-use Rattle.decoder.specs.State.{left, sound, numbers, opened, fed, closed}
+use Rattle.decoder.specs.State.{left, sound, byteDecoding, opened, fed, closed}
 use Rattle.decoder.proofs.SeamSettled.{left-long}
 
 -- the state that keeps what is settled and what is left of a text behind what a state counts
 abbrev pub grown : Decoder → ℕ → List ℕ → Decoder
-grown d taken text = record {
-  held = padded (parts bytes text .left);
-  pending = length (parts bytes text .left);
+grown d taken text = byteDecoding .state (record {
+  left = parts bytes text .left;
   taken = taken;
   whole = d .whole + total (wholeOf isDamage) (parts bytes text .done);
   damaged = d .damaged + total (damagedOf isDamage) (parts bytes text .done);
   count = d .count + total (countOf isDamage) (parts bytes text .done);
   room = d .room;
-}
+})
 
 -- a feed makes this state, whatever the list holds
 pub closed-is : (d : Decoder) (taken : ℕ) (piece list : List ℕ) → closed d taken (fed d piece list) ≡ grown d taken (left d ++ piece)

@@ -1,17 +1,13 @@
 -- The checks before a call: whether a state may take it.
-use Prim.Native.Nat.{ℕ, _*_}
-use mathlib.Core.Bool.{cond}
-use mathlib.Core.List.{List, [], _∷_}
-use lib.Dec.{ltb}
-use Rattle.terms.specs.Limits.{entryWidth}
-use Rattle.terms.specs.Checks.{tested}
+use Prim.Native.Nat.{ℕ}
+use mathlib.Core.List.{List}
 use Rattle.terms.specs.declared.Decoder.{Decoder}
-use Rattle.decoder.specs.Tests.{sound}
+use Rattle.decoder_shared.specs.Checks as checks
+use Rattle.decoder.specs.State.{byteDecoding}
 
--- THE CHECKS before a call that brings so many bytes and lends a list of so many numbers: refusal 8, 2, 7 in this order; then
--- what the call says
+-- refusal 8, 2, 7 in this order; then what the call says
 abbrev pub admitted : Decoder → ℕ → ℕ → List ℕ → List ℕ
-admitted d more row says = tested (sound d) (d .taken) more (cond (ltb row (entryWidth * d .room)) (7 ∷ []) says)
+admitted = checks.admitted byteDecoding
 
 abbrev pub admitSays : Decoder → ℕ → ℕ → List ℕ
-admitSays d more row = admitted d more row (0 ∷ [])
+admitSays = checks.admitSays byteDecoding

@@ -1,50 +1,51 @@
 -- The decoder's state: its tests, and what it stands for while a text comes in pieces.
 use Prim.Native.Nat.{ℕ}
-use mathlib.Core.List.{List, [], _∷_}
+use mathlib.Core.List.{List}
 use lib.ListN.{length}
 use Rattle.theory.specs.Reader.{Segment}
 use Rattle.theory.specs.Stream.{State}
-use Rattle.theory.specs.Tally.{Entry, Log, log}
-use Rattle.theory.specs.Stream as stream
-use Rattle.theory.specs.Table.{Kind, isDamage}
+use Rattle.theory.specs.Tally.{Log}
+use Rattle.theory.specs.Table.{Kind}
 use Rattle.terms.specs.Form.{mend}
-use Rattle.terms.specs.Limits.{entryWidth}
 use Rattle.terms.specs.declared.Decoder.{Decoder}
 use Rattle.utf8.specs.Bytes.{bytes}
 use Rattle.utf8.specs.Pending.{padded}
 use Rattle.utf8.specs.Scalar.{utf8}
+use Rattle.decoder_shared.specs.Decoding.{Decoding}
+use Rattle.decoder_shared.specs.Decoding as decoding
 pub use Rattle.decoder.specs.Tests.{left, sound}
 
--- a damage entry is two numbers: start in the joined text, and length
-abbrev pub numbers : Entry Kind → List ℕ
-numbers e = e .start ∷ e .long ∷ []
+-- THE DECODER OF BYTES: it reads bytes and writes them in repaired form; a state holds those that are pending, and 0 behind them
+abbrev pub byteDecoding : Decoding Decoder
+byteDecoding = record {
+  look = bytes;
+  write = mend utf8;
+  stands = λ d. record { left = left d; taken = d .taken; whole = d .whole; damaged = d .damaged; count = d .count; room = d .room };
+  state = λ s. record {
+    held = padded (s .left);
+    pending = length (s .left);
+    taken = s .taken;
+    whole = s .whole;
+    damaged = s .damaged;
+    count = s .count;
+    room = s .room;
+  };
+  sound = sound;
+}
 
 -- what one segment does to the totals, the output and the list
 abbrev pub act : ℕ → Log → Segment Kind → Log
-act room = log isDamage (mend utf8) numbers entryWidth room
+act = decoding.act (mend utf8)
 
--- the state as a stream's: what is pending, and what is kept, with an output that is empty yet
+-- the state as a stream's, the stream after a piece, what is kept at the end, and the state that is handed back
 abbrev pub opened : Decoder → List ℕ → State Log
-opened d list = record {
-  left = left d;
-  kept = record { whole = d .whole; damaged = d .damaged; count = d .count; out = []; list = list };
-}
+opened = decoding.opened byteDecoding
 
--- the stream after a piece, and what is kept at the end
 abbrev pub fed : Decoder → List ℕ → List ℕ → State Log
-fed d piece list = stream.feed bytes (act (d .room)) (opened d list) piece
+fed = decoding.fed byteDecoding
 
 abbrev pub ended : Decoder → List ℕ → Log
-ended d list = stream.finish bytes (act (d .room)) (opened d list)
+ended = decoding.ended byteDecoding
 
--- the state that is handed back
 abbrev pub closed : Decoder → ℕ → State Log → Decoder
-closed d taken s = record {
-  held = padded (s .left);
-  pending = length (s .left);
-  taken = taken;
-  whole = s .kept .whole;
-  damaged = s .kept .damaged;
-  count = s .kept .count;
-  room = d .room;
-}
+closed = decoding.closed byteDecoding

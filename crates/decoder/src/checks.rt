@@ -1,16 +1,10 @@
 // The tests of a decoder's state, and the checks before a call.
+use decoder_shared::Admission;
 use terms::Decoder;
-use terms::Refusal;
 ghost use mathlib.Core.Path.{_≡_};
+ghost use Rattle.decoder_shared.specs.Steps.{admission};
 ghost use Rattle.decoder.specs.Tests.{sound, balanced};
 ghost use Rattle.decoder.specs.Checks.{admitSays};
-ghost use Rattle.decoder.specs.Inside.Steps.{admission};
-
-// May a state take a call?
-pub(crate) enum Admission {
-    Granted,
-    Refused(Refusal),
-}
 
 // Are the bytes those that were taken, and is every number within its bounds? No sum is made that could wrap.
 fn is_balanced(state: Decoder) -> bool
@@ -39,7 +33,7 @@ fn is_balanced(state: Decoder) -> bool
 }
 
 // The tests of a state.
-fn is_sound(state: Decoder) -> bool
+pub fn is_sound(state: Decoder) -> bool
     ensures { λ r. ⌜ r ≡ sound state ⌝ }
 {
     let held = state.held;
@@ -53,14 +47,5 @@ fn is_sound(state: Decoder) -> bool
 pub(crate) fn admit(state: Decoder, more: usize, row: usize) -> Admission
     ensures { λ r. ⌜ admission r ≡ admitSays state more row ⌝ }
 {
-    if !is_sound(state) {
-        return Admission::Refused(Refusal::BadState);
-    }
-    if Decoder::LIMIT - state.taken < more {
-        return Admission::Refused(Refusal::OverLimit);
-    }
-    if row < Decoder::ENTRY * state.room {
-        return Admission::Refused(Refusal::ListRoom);
-    }
-    Admission::Granted
+    decoder_shared::admit(is_sound(state), state.taken, state.room, more, row)
 }

@@ -1,6 +1,6 @@
 // Repair of a byte text that comes in pieces, with a list of its damages.
-use crate::checks::Admission;
 use crate::tally::Tally;
+use decoder_shared::Admission;
 use terms::Decoder;
 use terms::First;
 use terms::Refusal;
@@ -19,6 +19,8 @@ ghost use Rattle.decoder.specs.Inside.Steps as steps;
 mod checks;
 mod tally;
 mod walk;
+
+pub use checks::is_sound;
 
 // The state of a start, and whether its room was refused.
 pub struct Started {
@@ -162,31 +164,30 @@ fn take(state: Decoder, piece: &[u8], out: &mut [u8], list: &mut [u32]) -> Fed
 
 // ---- the end
 
-// So many pending bytes, if any, are one damage.
-fn last(n: usize) -> First
-    ensures { λ r. ⌜ r ≡ steps.lastOf n ⌝ }
-{
-    if n == 0 {
-        return First::Nothing;
-    }
-    First::Damage(n)
-}
-
-// A state that may end the text ends it.
+// A state that may end the text ends it: pending bytes, if any, are one damage.
 fn end(state: Decoder, out: &mut [u8], list: &mut [u32]) -> Finished
     requires { ⌜ admitSays state 0 (length (now list)) ≡ 0 ∷ [] ⌝ }
     ensures { λ r. ⌜ Finishes state (now (out .entry)) (now (list .entry)) (now (out .exit)) (now (list .exit)) r ⌝ }
 {
-    let seg = last(state.pending);
-    let needed = crate::tally::places(seg);
+    if state.pending == 0 {
+        return Finished {
+            answer: Total::Given {
+                written: 0,
+                whole: state.whole,
+                damaged: state.damaged,
+                count: state.count,
+            },
+            state: Decoder::fresh(state.room),
+        };
+    }
+    let needed = crate::tally::MARK;
     if out.len() < needed {
         return Finished {
             answer: Total::Refused(Refusal::NoRoom { needed }),
             state,
         };
     }
-    let held = state.held;
-    let all = crate::tally::act(seg, &held, open_tally(state), state.room, out, list);
+    let all = crate::tally::mend(state.pending, open_tally(state), state.room, out, list);
     Finished {
         answer: Total::Given {
             written: all.written,

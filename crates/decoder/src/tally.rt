@@ -1,12 +1,11 @@
 // What settled segments do: to a tally, to the output in repaired form, and to the list of damages.
-use terms::Decoder;
 use terms::First;
 ghost use mathlib.Core.Path.{_≡_};
-ghost use Prim.Native.Nat.{ℕ, _+_, _*_, _≤_};
+ghost use Prim.Native.Nat.{ℕ, _+_, _≤_};
 ghost use mathlib.Core.List.{List, _++_};
 ghost use lib.ListN.{length, drop};
 ghost use Rattle.terms.specs.Form.{replacement};
-ghost use Rattle.terms.specs.Limits.{limit, entryWidth};
+ghost use Rattle.terms.specs.Limits.{limit};
 ghost use Rattle.utf8.specs.Scalar.{utf8};
 ghost use Rattle.utf8_pending.specs.Tail.{settledSize};
 ghost use Rattle.decoder.specs.Inside.Acting as acting;
@@ -54,20 +53,6 @@ pub(crate) fn pass(run: &[u8], tally: Tally, out: &mut [u8]) -> Tally
     }
 }
 
-// The entry of a damage of so many bytes, behind those that are counted, where the list has room for it.
-fn note(n: usize, tally: Tally, room: usize, list: &mut [u32])
-    requires { ⌜ (entryWidth * room ≤ length (now list)) × (tally .whole + tally .damaged + n ≤ limit) ⌝ }
-    ensures { λ r. ⌜ now (list .exit) ≡ acting.entered room (now (list .entry)) (tally .count) (tally .whole + tally .damaged) n ⌝ }
-{
-    if room <= tally.count {
-        return;
-    }
-    let at = Decoder::ENTRY * tally.count;
-    let start = tally.whole + tally.damaged;
-    list[at] = start as u32;
-    list[at + 1] = n as u32;
-}
-
 // U+FFFD at the start of an output.
 fn put_mark(out: &mut [u8])
     requires { ⌜ 3 ≤ length (now out) ⌝ }
@@ -79,14 +64,15 @@ fn put_mark(out: &mut [u8])
 }
 
 // U+FFFD is written for a damage of so many bytes, and it is entered and counted.
-fn mend(n: usize, tally: Tally, room: usize, out: &mut [u8], list: &mut [u32]) -> Tally
+pub(crate) fn mend(n: usize, tally: Tally, room: usize, out: &mut [u8], list: &mut [u32]) -> Tally
     requires { ⌜ Fits room 3 n (work tally (now out) (now list)) ⌝ }
     ensures { λ r. ⌜ work r (now (out .exit)) (now (list .exit))
         ≡ reached (now (out .entry)) (acting.mended room n (logOf (work tally (now (out .entry)) (now (list .entry))))) ⌝ }
 {
     let at = tally.written;
     put_mark(&mut out[at..]);
-    note(n, tally, room, list);
+    let start = tally.whole + tally.damaged;
+    decoder_shared::enter(list, room, tally.count, start as u32, n as u32);
     Tally {
         whole: tally.whole,
         damaged: tally.damaged + n,

@@ -21,12 +21,12 @@ use Rattle.terms.specs.declared.Written.the-variants.{Count, Refused}
 use Rattle.terms.proofs.ToldBack.{no-zero}
 use Rattle.terms.proofs.Tested.{tested-then, granted-passed}
 use Rattle.utf8.specs.Bytes.{bytes}
+use Rattle.decoder_shared.proofs.AnyCutting.{feed-grants}
 use Rattle.decoder.proofs.TestsAsFacts.{Sound, sound-is}
-use Rattle.decoder.specs.State.{left, sound, fed, closed}
+use Rattle.decoder.specs.State.{left, sound, byteDecoding, fed, closed}
 use Rattle.decoder.specs.Feeding.{feedSays, Feeds}
 use Rattle.decoder.specs.declared.Fed.{Fed}
 use Rattle.decoder.specs.Room.{mostFed}
-use Rattle.decoder.proofs.AnyCutting.{feed-grants}
 use Rattle.decoder.proofs.Enough.{enough}
 use Rattle.decoder.proofs.StateKept.{grown, closed-is, grown-sound, grown-append, grown-nothing}
 use Rattle.decoder_watch.specs.Watching.{watchSays, fedByte, counting, refusing, watching, watchedAll}
@@ -152,7 +152,7 @@ pub watch-feed : (d : Decoder) (b : ℕ) (out list out′ list′ ns : List ℕ)
     → toldWritten (r .answer) ≡ 0 ∷ ns → watching d b .state ≡ r .state
 watch-feed d b out list out′ list′ ns r h e =
     let g : isGranted (feedSays d (b ∷ []) out list) ≡ true = ap isGranted (sym (h .answer) ∙ e) in
-    let a = feed-grants d (b ∷ []) out list g .admits in
+    let a = feed-grants byteDecoding d (b ∷ []) out list g .admits in
     let fed-state : r .state ≡ next d b
     = h .state
     ∙ ap (λ (t : Bool). cond t (closed d (d .taken + 1) (fed d (b ∷ []) list)) d) g

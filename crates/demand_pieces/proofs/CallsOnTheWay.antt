@@ -20,14 +20,14 @@ use Rattle.terms.proofs.ToldBack.{no-zero}
 use Rattle.terms.proofs.WalkBySegments.{part-is}
 use Rattle.terms.proofs.WalkWrites.{lent, back, back-is}
 use Rattle.utf8_pending.proofs.HeldInPlaces.{take-min}
-use Rattle.decoder.specs.State.{fed, ended, closed}
+use Rattle.decoder_shared.proofs.AnyCutting.{FeedGrants, feed-grants, finish-grants}
+use Rattle.decoder.specs.State.{byteDecoding, fed, ended, closed}
 use Rattle.decoder.specs.Feeding.{toldOpening as begins, toldTotal, Starts, Feeds, finishSays, Finishes}
 use Rattle.decoder.specs.declared.Opening.the-variants as the-opening
 use Rattle.decoder.specs.declared.Total.the-variants as the-total
 use Rattle.decoder.specs.declared.Started.{Started}
 use Rattle.decoder.specs.declared.Fed.{Fed}
 use Rattle.decoder.specs.declared.Finished.{Finished}
-use Rattle.decoder.proofs.AnyCutting.{FeedGrants, feed-grants, finish-grants}
 use Rattle.demand_shared.specs.Cuts.{bring}
 use Rattle.demand_pieces.specs.Feeds.{Held, held, Call, call, endOf, pieceOf, saysOf, feedOf, Given, given, nothing, finished, ran, through}
 use Rattle.demand_pieces.specs.Inside.Feeding.{fedOne}
@@ -117,7 +117,7 @@ module _ (text : List ℕ) (g : Gone) (cut places : ℕ) (out list : List ℕ) w
         let e : k ≡ min (length rest) places = omega (arith, n-is, length-drop (g .done) out) in
         ap (λ (i : ℕ). take i rest) e ∙ take-min places rest
 
-    module _ {out₁ list₁ : List ℕ} {q : Fed} (f : Feeds (g .state) (take (to - g .from) (drop (g .from) text)) (take k rest) list out₁ list₁ q) where
+    module _ {out₁ list₁ : List ℕ} (q : Fed) (f : Feeds (g .state) (take (to - g .from) (drop (g .from) text)) (take k rest) list out₁ list₁ q) where
       feeds : Feeds (g .state) (pieceOf text before c) (take places rest) list out₁ list₁ q
       feeds = rw (to-is, lent-is) at f
 
@@ -125,8 +125,8 @@ module _ (text : List ℕ) (g : Gone) (cut places : ℕ) (out list : List ℕ) w
         says : saysOf text before c ≡ 0 ∷ m ∷ []
         says = sym (feeds .answer) ∙ ap toldWritten a
 
-        grants : FeedGrants (g .state) (pieceOf text before c) (take places rest) list
-        grants = feed-grants (g .state) (pieceOf text before c) (take places rest) list (ap isGranted says)
+        grants : FeedGrants byteDecoding (g .state) (pieceOf text before c) (take places rest) list
+        grants = feed-grants byteDecoding (g .state) (pieceOf text before c) (take places rest) list (ap isGranted says)
 
         pub piece-fits : g .done ≤ length out → g .done + m ≤ length out
         piece-fits h =
@@ -189,7 +189,7 @@ module _ (text : List ℕ) (g : Gone) (out list : List ℕ) where
   pub end-before : (g .from ≡ length text → ⊥) → (x : Found) → x ≡ nothing true → given x out list ≡ finished text (held g out list)
   end-before e x n = rw (ne-eqb (g .from) (length text) e, n)
 
-  module _ {out₁ list₁ : List ℕ} {q : Finished} (all : g .from ≡ length text) (f : Finishes (g .state) (lent out (g .done)) list out₁ list₁ q) where
+  module _ {out₁ list₁ : List ℕ} (all : g .from ≡ length text) (q : Finished) (f : Finishes (g .state) (lent out (g .done)) list out₁ list₁ q) where
     ends : Finishes (g .state) (drop (g .done) out) list out₁ list₁ q
     ends = subst (λ (l : List ℕ). Finishes (g .state) l list out₁ list₁ q) (part-is out (g .done)) f
 
@@ -213,6 +213,6 @@ module _ (text : List ℕ) (g : Gone) (out list : List ℕ) where
     pub end-fits : (n w d k : ℕ) → q .answer ≡ the-total.Given n w d k → g .done ≤ length out → g .done + n ≤ length out
     end-fits n w d k a h =
         let says : finishTells ≡ 0 ∷ n ∷ w ∷ d ∷ k ∷ [] = sym (ends .answer) ∙ ap toldTotal a in
-        let e = finish-grants (g .state) (drop (g .done) out) list (ap isGranted says) in
+        let e = finish-grants byteDecoding (g .state) (drop (g .done) out) list (ap isGranted says) in
         let m : n ≡ length (ended (g .state) list .out) = ap (λ (l : List ℕ). getD l 1 0) (sym says ∙ e .says) in
         omega (arith, m, e .fits, length-drop (g .done) out)

@@ -24,13 +24,15 @@ use Rattle.terms.specs.Writing.{outputOf}
 use Rattle.terms.specs.declared.Decoder.{Decoder}
 use Rattle.utf8.specs.Bytes.{bytes}
 use Rattle.utf8.specs.Scalar.{utf8}
-use Rattle.decoder.specs.State.{numbers, fed, ended, closed}
-use Rattle.decoder.specs.Feeding.{finishSays, Finishes}
-use Rattle.decoder.specs.Course.{Caller, starting, wrote, fedAll, listed, Holds}
-use Rattle.decoder.specs.Course as calling
-use Rattle.decoder.specs.declared.Finished.{Finished}
-use Rattle.decoder.specs.declared.Total.the-variants as the-total
-use Rattle.decoder.proofs.AnyCutting.{FeedGrants, feed-grants, FinishGrants, finish-grants, course-holds, fed-as-whole}
+use Rattle.decoder_shared.specs.Decoding.{numbers}
+use Rattle.decoder_shared.specs.Calls.{Finishes}
+use Rattle.decoder_shared.specs.Course.{Caller, starting, wrote, listed}
+use Rattle.decoder_shared.specs.Course as calling
+use Rattle.decoder_shared.proofs.AnyCutting.{FeedGrants, feed-grants, FinishGrants, finish-grants}
+use Rattle.decoder.specs.State.{byteDecoding, fed, ended, closed}
+use Rattle.decoder.specs.Feeding.{finishSays}
+use Rattle.decoder.specs.Course.{fedAll, Holds}
+use Rattle.decoder.proofs.BytesLawful.{course-holds, fed-as-whole}
 use Rattle.demand_shared.proofs.CutsBetween.{bring-from, bring-end}
 use Rattle.demand_pieces.specs.Feeds.{Held, held, Call, endOf, pieceOf, restOf, saysOf, feedOf, Given, given, finished, ran, through}
 use Rattle.demand_pieces.specs.Inside.Feeding.{fedOne}
@@ -98,8 +100,8 @@ module _ (text : List ℕ) (h : Held) (c : Call) where
   told = 0 ∷ length form ∷ []
 
   module _ (e : isGranted (saysOf text h c) ≡ true) (b : Bounded text h) where
-    grants : FeedGrants (g .state) (pieceOf text h c) part (h .list)
-    grants = feed-grants (g .state) (pieceOf text h c) part (h .list) e
+    grants : FeedGrants byteDecoding (g .state) (pieceOf text h c) part (h .list)
+    grants = feed-grants byteDecoding (g .state) (pieceOf text h c) part (h .list) e
 
     goes-is : feedOf text .goes h c ≡ next told
     goes-is = ap next (grants .says)
@@ -128,7 +130,7 @@ module _ (text : List ℕ) (h : Held) (c : Call) where
 
 -- ---- the decoder's calls that such feeds are
 
-abbrev pub callerOf : Held → Caller
+abbrev pub callerOf : Held → Caller Decoder
 callerOf h = record { state = h .gone .state; list = h .list; written = take (h .gone .done) (h .out) }
 
 module _ (room : ℕ) (row text out : List ℕ) where
@@ -156,12 +158,12 @@ module _ (room : ℕ) (row text out : List ℕ) where
   keeps-next so-far h c e k =
       let b = k .bounded in
       let piece : List ℕ = pieceOf text h c in
-      let r : Course Caller = fedAll room row (k .calls) in
+      let r : Course (Caller Decoder) = fedAll room row (k .calls) in
       let x : calling.Call = record { piece = piece; out = part text h c } in
-      let yes : calling.feedOf .grants (r .caller) x ≡ true = rw (k .caller-is) e in
-      let more : fedAll room row (k .calls ++ x ∷ []) ≡ granted calling.feedOf r x
-      = foldl-append (called calling.feedOf) (course.uncalled (starting room row)) (k .calls) (x ∷ [])
-      ∙ ap (λ (a : Bool). cond a (granted calling.feedOf r x) r) yes in
+      let yes : calling.feedOf byteDecoding .grants (r .caller) x ≡ true = rw (k .caller-is) e in
+      let more : fedAll room row (k .calls ++ x ∷ []) ≡ granted (calling.feedOf byteDecoding) r x
+      = foldl-append (called (calling.feedOf byteDecoding)) (course.uncalled (starting byteDecoding room row)) (k .calls) (x ∷ [])
+      ∙ ap (λ (a : Bool). cond a (granted (calling.feedOf byteDecoding) r x) r) yes in
       let says = grants text h c e b .says in
       let wrote-is : wrote (saysOf text h c) (form text h c) (part text h c) ≡ form text h c
       = ap (λ (l : List ℕ). wrote l (form text h c) (part text h c)) says
@@ -175,10 +177,10 @@ module _ (room : ℕ) (row text out : List ℕ) where
         long = next-long text h c e b ∙ k .long;
         calls = k .calls ++ x ∷ [];
         caller-is =
-            ap (λ (y : Course Caller). y .caller) more
-            ∙ ap (λ (y : Caller). calling.feedOf .goes y x) (k .caller-is)
+            ap (λ (y : Course (Caller Decoder)). y .caller) more
+            ∙ ap (λ (y : Caller Decoder). calling.feedOf byteDecoding .goes y x) (k .caller-is)
             ∙ ap (λ (l : List ℕ). record { state = n .gone .state; list = n .list; written = l }) written-is;
-        joined = ap (λ (y : Course Caller). join (y .pieces)) more ∙ join-more (r .pieces) piece ∙ ap (λ (l : List ℕ). l ++ piece) (k .joined);
+        joined = ap (λ (y : Course (Caller Decoder)). join (y .pieces)) more ∙ join-more (r .pieces) piece ∙ ap (λ (l : List ℕ). l ++ piece) (k .joined);
         so-far-is =
             ap (λ (l : List ℕ). l ++ piece) (k .so-far-is)
             ∙ take-on text (h .gone .from) (endOf text h c) (bring-from (c .cut) (h .gone .from) (length text) (b .from-in)) (b .from-in);
@@ -242,21 +244,18 @@ module _ (room : ℕ) (row text out : List ℕ) where
         (take (h .gone .done) (h .out) ++ (last ++ drop (length last) (restOf h)))
         (ended d (h .list) .list)
 
-    ran-all : h .gone .from ≡ length text → FinishGrants d (restOf h) (h .list) → Ran ending
+    ran-all : h .gone .from ≡ length text → FinishGrants byteDecoding d (restOf h) (h .list) → Ran ending
     ran-all all f =
         let b = k .bounded in
-        let q : Finished = record {
-          answer = the-total.Given (length last) (ended d (h .list) .whole) (ended d (h .list) .damaged) (ended d (h .list) .count);
-          state = freshOf (d .room);
-        } in
-        let fin : Finishes d (restOf h) (h .list) (last ++ drop (length last) (restOf h)) (ended d (h .list) .list) q = record {
+        let out₁ : List ℕ = last ++ drop (length last) (restOf h) in
+        let says : List ℕ = 0 ∷ length last ∷ ended d (h .list) .whole ∷ ended d (h .list) .damaged ∷ ended d (h .list) .count ∷ [] in
+        let fin : Finishes byteDecoding d (restOf h) (h .list) out₁ (ended d (h .list) .list) says (freshOf (d .room)) = record {
           answer = sym (f .says);
           state = sym (ap (λ (l : List ℕ). ifGranted l (freshOf (d .room)) d) (f .says));
           output = sym (ap (λ (l : List ℕ). outputOf l last (restOf h)) (f .says));
           entries = sym (ap (λ (l : List ℕ). ifGranted l (ended d (h .list) .list) (h .list)) (f .says));
         } in
-        let z = fed-as-whole room row (k .calls) (restOf h) (last ++ drop (length last) (restOf h)) (ended d (h .list) .list) q
-        (rw (k .caller-is) fin) refl in
+        let z = fed-as-whole room row (k .calls) (restOf h) out₁ (ended d (h .list) .list) says (freshOf (d .room)) (rw (k .caller-is) fin) refl in
         let whole-text : join (fedAll room row (k .calls) .pieces) ≡ text
         = k .joined ∙ k .so-far-is ∙ ap (λ (i : ℕ). take i text) all ∙ take-all (length text) text (omega arith) in
         let room-is : d .room ≡ room = keeps-holds roomy so-far h k .room-is in
@@ -268,7 +267,7 @@ module _ (room : ℕ) (row text out : List ℕ) where
           long = long ∙ k .long;
           output =
               take-wrote (h .out) last (h .gone .done) (b .done-in)
-              ∙ sym (ap₂ _++_ (ap (λ (y : Caller). y .written) (k .caller-is)) (take-at last (drop (length last) (restOf h)) (length last) refl))
+              ∙ sym (ap₂ _++_ (ap (λ (y : Caller Decoder). y .written) (k .caller-is)) (take-at last (drop (length last) (restOf h)) (length last) refl))
               ∙ z .output
               ∙ ap (repaired utf8) whole-text;
           list-is = z .entries ∙ ap (λ (l : List ℕ). listed room row (cut bytes l)) whole-text;
@@ -278,7 +277,7 @@ module _ (room : ℕ) (row text out : List ℕ) where
         }
 
     -- it is granted where all was taken and finish is granted
-    pub ended-so : h .gone .from ≡ length text → FinishGrants d (restOf h) (h .list) → finished text h ≡ ending
+    pub ended-so : h .gone .from ≡ length text → FinishGrants byteDecoding d (restOf h) (h .list) → finished text h ≡ ending
     ended-so all f = rw (eq-eqb (h .gone .from) (length text) all, f .says)
 
     found-ran : finished text h .found .granted ≡ true → Ran (finished text h)
@@ -286,7 +285,7 @@ module _ (room : ℕ) (row text out : List ℕ) where
         (λ t. split (isGranted (finishSays d (restOf h) (h .list)))
         (λ g.
         let all = eqb-true (h .gone .from) (length text) t in
-        let f = finish-grants d (restOf h) (h .list) g in
+        let f = finish-grants byteDecoding d (restOf h) (h .list) g in
         subst Ran (sym (ended-so all f)) (ran-all all f))
         (λ g. absurd (true≢false (sym e ∙ rw (t, g)))))
         (λ t. absurd (true≢false (sym e ∙ rw t)))

@@ -14,7 +14,7 @@ use Rattle.theory.proofs.Rows.{sets-start, written-fixed}
 use Rattle.theory.proofs.TalliesAdd.{entries-length}
 use Rattle.terms.specs.Limits.{entryWidth}
 use Rattle.utf8.specs.Bytes.{bytes}
-use Rattle.decoder.specs.State.{numbers}
+use Rattle.decoder_shared.specs.Decoding.{numbers}
 use Rattle.demand_pieces.specs.Feeds.{Given}
 use Rattle.demand_pieces.specs.Inside.Comparing.{enough, sameTotals}
 use Rattle.demand_pieces.proofs.CuttingDoesNotMatter.{Ran}

@@ -23,11 +23,12 @@ use Rattle.terms.proofs.WalkBySegments.{part-is}
 use Rattle.utf8.specs.Bytes.{bytes}
 use Rattle.utf8.specs.Scalar.{utf8}
 use Rattle.utf8.proofs.RowsOfBytes.{bytes-division}
-use Rattle.decoder.proofs.ChecksInOrder.{Admits, admitted-then}
-use Rattle.decoder.specs.State.{left, numbers, opened, fed, ended}
+use Rattle.decoder_shared.specs.Decoding.{numbers}
+use Rattle.decoder_shared.proofs.ChecksInOrder.{Admits, admitted-then}
+use Rattle.decoder_shared.proofs.AnyCutting.{FinishGrants}
+use Rattle.decoder.specs.State.{left, byteDecoding, opened, fed, ended}
 use Rattle.decoder.specs.Feeding.{feedSays}
 use Rattle.decoder.specs.Course.{Holds}
-use Rattle.decoder.proofs.AnyCutting.{FinishGrants}
 use Rattle.demand_shared.specs.Cuts.{bring}
 use Rattle.demand_pieces.specs.Feeds.{Held, Call, endOf, pieceOf, restOf, saysOf, feedOf, Given, ran, through, whole}
 use Rattle.demand_pieces.specs.Inside.Comparing.{enough}
@@ -47,16 +48,16 @@ module _ (d : Decoder) (list : List ℕ) where
   ended-form : ended d list .out ≡ written (mend utf8) (cut bytes (left d))
   ended-form = ap (λ (m : Log). m .out) (log-is isDamage (mend utf8) numbers entryWidth (d .room) (opened d list .kept) (cut bytes (left d)))
 
-  feed-granted : (piece out : List ℕ) → Admits d (length piece) (length list) → length (fed d piece list .kept .out) ≤ length out
+  feed-granted : (piece out : List ℕ) → Admits byteDecoding d (length piece) (length list) → length (fed d piece list .kept .out) ≤ length out
       → isGranted (feedSays d piece out list) ≡ true
   feed-granted piece out a h =
-      ap isGranted (admitted-then d (length piece) (length list) _ a) ∙ rw (le-ltb (length out) (length (fed d piece list .kept .out)) h)
+      ap isGranted (admitted-then byteDecoding d (length piece) (length list) _ a) ∙ rw (le-ltb (length out) (length (fed d piece list .kept .out)) h)
 
-  finish-granted : (out : List ℕ) → Admits d 0 (length list) → length (ended d list .out) ≤ length out → FinishGrants d out list
+  finish-granted : (out : List ℕ) → Admits byteDecoding d 0 (length list) → length (ended d list .out) ≤ length out → FinishGrants byteDecoding d out list
   finish-granted out a h = record {
     admits = a;
     fits = h;
-    says = admitted-then d 0 (length list) _ a ∙ rw (le-ltb (length out) (length (ended d list .out)) h);
+    says = admitted-then byteDecoding d 0 (length list) _ a ∙ rw (le-ltb (length out) (length (ended d list .out)) h);
   }
 
 module _ (room : ℕ) (row text out : List ℕ) (within : length text ≤ limit) where
@@ -144,7 +145,7 @@ module _ (room : ℕ) (row text out : List ℕ) (within : length text ≤ limit)
         taken-all : so-far ≡ text
         taken-all = k .so-far-is ∙ ap (λ (n : ℕ). take n text) all ∙ take-all (length text) text (omega arith)
 
-        end-granted : FinishGrants d (restOf h) (h .list)
+        end-granted : FinishGrants byteDecoding d (restOf h) (h .list)
         end-granted =
             let a : List ℕ = written (mend utf8) (parts bytes so-far .done) in
             let b : List ℕ = written (mend utf8) (cut bytes (parts bytes so-far .left)) in

@@ -23,11 +23,10 @@ use Rattle.terms.specs.declared.Written.the-variants as the-written
 use Rattle.utf8.specs.Bytes.{bytes}
 use Rattle.utf8.specs.Scalar.{utf8}
 use Rattle.utf8_pending.proofs.SettledFirst.{left-short}
-use Rattle.decoder.specs.Tests.{left, sound}
+use Rattle.decoder_shared.proofs.ChecksInOrder.{admitted-over, admitted-list, admitted-then}
 use Rattle.decoder.specs.Checks.{admitted}
 use Rattle.decoder.proofs.TestsAsFacts.{Sound, sound-is, is-sound}
-use Rattle.decoder.proofs.ChecksInOrder.{admitted-over, admitted-list, admitted-then}
-use Rattle.decoder.specs.State.{fed}
+use Rattle.decoder.specs.State.{left, sound, byteDecoding, fed}
 use Rattle.decoder.specs.Feeding.{feedSays, Feeds}
 use Rattle.decoder.specs.declared.Fed.{Fed}
 use Rattle.demand_pieces.specs.Inside.Trying.{numberOf, dueTo, Refuses}
@@ -87,7 +86,7 @@ module _ (d : Decoder) (s : sound d ≡ true) where
         numbers = record { sum = omega (arith, b .sum, b .within); within = omega arith; low = b .low; high = b .high; roomy = b .roomy };
       }) in
       let form : List ℕ = fed over (take 1 trying.bytes) list .kept .out in
-      sym (ap head (admitted-over over 1 (length list) (roomed (length out) form) t (omega arith)))
+      sym (ap head (admitted-over byteDecoding over 1 (length list) (roomed (length out) form) t (omega arith)))
 
   abbrev roomier : Decoder
   roomier = record {
@@ -108,23 +107,23 @@ module _ (d : Decoder) (s : sound d ≡ true) where
         numbers = record { sum = b .sum; within = b .within; low = b .low; high = b .high; roomy = omega arith };
       }) in
       let form : List ℕ = fed roomier [] [] .kept .out in
-      sym (ap head (admitted-list roomier 0 0 (roomed (length out) form) t (omega (arith, b .within)) (omega arith)))
+      sym (ap head (admitted-list byteDecoding roomier 0 0 (roomed (length out) form) t (omega (arith, b .within)) (omega arith)))
 
   -- ---- the state itself, with no output
 
   module _ (size row : ℕ) where
     pub due-over : limit - d .taken < size → 2 ≡ dueTo d size row
-    due-over h = ap head (admitted-over d size row (3 ∷ []) s (omega (arith, h)))
+    due-over h = ap head (admitted-over byteDecoding d size row (3 ∷ []) s (omega (arith, h)))
 
     module _ (h : size ≤ limit - d .taken) where
       inside : d .taken + size ≤ limit
       inside = omega (arith, h, tests .numbers .within)
 
       pub due-list : row < entryWidth * d .room → 7 ≡ dueTo d size row
-      due-list k = ap head (admitted-list d size row (3 ∷ []) s inside k)
+      due-list k = ap head (admitted-list byteDecoding d size row (3 ∷ []) s inside k)
 
       pub due-places : entryWidth * d .room ≤ row → 3 ≡ dueTo d size row
-      due-places k = sym (ap head (admitted-then d size row (3 ∷ []) (record { tests = s; within = inside; list = k })))
+      due-places k = sym (ap head (admitted-then byteDecoding d size row (3 ∷ []) (record { tests = s; within = inside; list = k })))
 
     -- whatever the call would say behind a 3
     same-head : (says : List ℕ) → head (admitted d size row (3 ∷ says)) ≡ dueTo d size row

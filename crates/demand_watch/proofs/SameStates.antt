@@ -15,8 +15,8 @@ use Rattle.terms.specs.declared.Decoder.{Decoder}
 use Rattle.terms.specs.declared.Refusal.{Refusal}
 use Rattle.terms.specs.declared.Refusal.the-variants.{OverLimit, NoRoom, ListRoom, BadState}
 use Rattle.terms.proofs.ToldBack.{told-refusal, no-zero}
-use Rattle.decoder.proofs.ChecksInOrder.{admitted-unsound, admitted-over, admitted-list, admitted-then}
-use Rattle.decoder.specs.State.{sound, fed}
+use Rattle.decoder_shared.proofs.ChecksInOrder.{admitted-unsound, admitted-over, admitted-list, admitted-then}
+use Rattle.decoder.specs.State.{sound, byteDecoding, fed}
 use Rattle.decoder.specs.Feeding.{feedSays}
 use Rattle.demand_shared.specs.Equal.{equal}
 use Rattle.demand_shared.proofs.EqualExactly.{equal-yes, equal-only}
@@ -92,17 +92,17 @@ module _ (room : ℕ) (text out list : List ℕ) (why : Refusal) (e : toldRefusa
       split (sound d)
       (λ s.
       under limit long
-      (λ h. so OverLimit (sym (admitted-over d long row _ s (omega arith))) (lt-ltb limit long h))
+      (λ h. so OverLimit (sym (admitted-over byteDecoding d long row _ s (omega arith))) (lt-ltb limit long h))
       (λ h.
       under row (entryWidth * room)
-      (λ k. so ListRoom (sym (admitted-list d long row _ s (omega arith) k)) (lt-ltb row (entryWidth * room) k))
+      (λ k. so ListRoom (sym (admitted-list byteDecoding d long row _ s (omega arith) k)) (lt-ltb row (entryWidth * room) k))
       (λ k.
-      let a = admitted-then d long row (roomed (length out) (fed d text list .kept .out)) (record { tests = s; within = omega arith; list = k }) in
+      let a = admitted-then byteDecoding d long row (roomed (length out) (fed d text list .kept .out)) (record { tests = s; within = omega arith; list = k }) in
       split (ltb (length out) form)
       (λ n. so (NoRoom form) (a ∙ rw n) n)
       (λ n.
       let zero : toldRefusal why ≡ 0 ∷ form ∷ [] = e ∙ a ∙ rw n in
       absurd (true≢false (sym (ap isGranted zero) ∙ no-zero why))))))
       (λ s.
-      so BadState (sym (admitted-unsound d long row _ s))
+      so BadState (sym (admitted-unsound byteDecoding d long row _ s))
       (under mostRoom room (lt-ltb mostRoom room) (λ h. absurd (true≢false (sym (le-leb room mostRoom h) ∙ s)))))

@@ -11,10 +11,10 @@ use Rattle.terms.specs.Limits.{limit, mostPending, freshOf}
 use Rattle.terms.specs.Told.{toldWritten, isGranted}
 use Rattle.terms.specs.declared.Decoder.{Decoder}
 use Rattle.terms.specs.declared.Written.the-variants.{Count}
-use Rattle.decoder.specs.State.{sound, fed, closed}
+use Rattle.decoder_shared.proofs.AnyCutting.{feed-grants}
+use Rattle.decoder.specs.State.{sound, byteDecoding, fed, closed}
 use Rattle.decoder.specs.Feeding.{feedSays, Feeds}
 use Rattle.decoder.specs.declared.Fed.{Fed}
-use Rattle.decoder.proofs.AnyCutting.{feed-grants}
 use Rattle.decoder_watch.specs.Watching.{counting, watching, watchedAll}
 use Rattle.decoder_watch.specs.declared.Watched.{Watched}
 use Rattle.decoder_watch.proofs.WatchIsFeed.{watched-all, watched-count}
@@ -56,7 +56,7 @@ pub same-as-fed : (room : ℕ) (text out list : List ℕ) {out′ list′ : List
 same-as-fed room text out list w q e f n a =
     let d = freshOf room in
     let g : isGranted (feedSays d text out list) ≡ true = ap isGranted (sym (f .answer) ∙ ap toldWritten a) in
-    let ok = feed-grants d text out list g .admits in
+    let ok = feed-grants byteDecoding d text out list g .admits in
     let state : q .state ≡ closed d (d .taken + length text) (fed d text list)
     = f .state ∙ ap (λ (t : Bool). cond t (closed d (d .taken + length text) (fed d text list)) d) g in
     record {

@@ -2,9 +2,11 @@
 use mathlib.Core.Path.{_≡_, sym, ap, _∙_}
 use mathlib.Core.List.{[], _∷_}
 use lib.ListN.{length}
+use Rattle.terms.specs.Told.{toldWritten}
+use Rattle.decoder_shared.specs.Steps.{admission}
+use Rattle.decoder_shared.proofs.FeedAnswers.{feed-refused, feed-granted}
 use Rattle.decoder.specs.Checks.{admitSays}
-use Rattle.decoder.specs.Inside.Steps.{admission}
-use Rattle.decoder.proofs.FeedAnswers.{feed-refused, feed-granted}
+use Rattle.decoder.specs.State.{byteDecoding}
 use borrow.Author.Needs.{needs}
 use Rattle.decoder.proofs.feed.Statement.{statement}
 use Rattle.decoder.proofs.feed.Tie as tie
@@ -37,15 +39,15 @@ returns c =
     let t = c .before .before .before .before in
     let e = t .before .before .before in
     let a = e .before .before .before .before .before .before .args in
-    feed-granted (a .state) (a .piece .now) (a .out .now) (a .list .now) (granted e)
-    (t .take .last .1 .1 .0) (t .take .last .1 .1 .1 .0) (t .take .result) (t .take .ensures)
+    feed-granted byteDecoding (a .state) (a .piece .now) (a .out .now) (a .list .now) (granted e)
+    (t .take .last .1 .1 .0) (t .take .last .1 .1 .1 .0) (toldWritten (t .take .result .answer)) (t .take .result .state) (t .take .ensures)
 
 returns-2 : tie.Need-returns-2
 returns-2 c =
     let w = c .before in
     let k = w .before .before in
     let a = k .before .before .before .before .args in
-    feed-refused (a .state) (a .piece .now) (a .out .now) (a .list .now) (w .why .given .0 .0)
+    feed-refused byteDecoding (a .state) (a .piece .now) (a .out .now) (a .list .now) (w .why .given .0 .0)
     (sym (ap admission (w .why .given .1)) ∙ k .admit .ensures)
 
 pub feed-spec : {M : Type 1} → statement M

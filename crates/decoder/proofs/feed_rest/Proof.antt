@@ -9,7 +9,8 @@ use Rattle.terms.proofs.WalkBySegments.{part-is}
 use Rattle.utf8.specs.Bytes.{bytes}
 use Rattle.decoder.specs.Inside.Acting.{need, places, toldOf, work, acted}
 use Rattle.decoder.specs.Inside.Steps.{tallyOf, keeping}
-use Rattle.decoder.proofs.SettledPlaces.{done-inside, done-left, lack-some, lack-none}
+use Rattle.decoder_shared.proofs.SettledText.{settled-inside, settled-left}
+use Rattle.decoder.proofs.SettledPlaces.{lack-some, lack-none}
 use Rattle.decoder.proofs.FeedAnswers.{rests-small, needs-few, seam-ready, rest-ready, behind-short, behind-done}
 use borrow.Author.Needs.{needs}
 use Rattle.decoder.proofs.feed_rest.Statement.{statement}
@@ -69,7 +70,7 @@ abbrev asked : tie.After-walk → tie.Start
 asked c = start (c .before .before .before .before .before .before .before .before .before .before .before .before)
 
 inside : (c : tie.After-walk) → c .walk .result .size ≤ length (asked c .args .rest .now)
-inside c = omega (arith, c .walk .ensures .bytes-are, done-inside (asked c .args .rest .now))
+inside c = omega (arith, c .walk .ensures .bytes-are, settled-inside bytes (asked c .args .rest .now))
 
 left-is : (c : tie.After-walk)
     → let rest = asked c .args .rest .now in
@@ -77,7 +78,7 @@ left-is : (c : tie.After-walk)
     take (length rest - n) (drop n rest) ≡ parts bytes rest .left
 left-is c =
     let rest = asked c .args .rest .now in
-    part-is rest (c .walk .result .size) ∙ ap (λ (n : ℕ). drop n rest) (c .walk .ensures .bytes-are) ∙ done-left rest
+    part-is rest (c .walk .result .size) ∙ ap (λ (n : ℕ). drop n rest) (c .walk .ensures .bytes-are) ∙ settled-left bytes rest
 
 sub-keep : tie.Need-sub-keep
 sub-keep c = inside (c .before .before .before .before .before)

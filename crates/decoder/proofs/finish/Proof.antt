@@ -1,7 +1,8 @@
 -- `finish` meets its contract: the checks, and then the text ends.
 use mathlib.Core.Path.{sym, ap, _∙_}
-use Rattle.decoder.specs.Inside.Steps.{admission}
-use Rattle.decoder.proofs.FinishAnswers.{finish-refused}
+use Rattle.decoder_shared.specs.Steps.{admission}
+use Rattle.decoder_shared.proofs.FinishAnswers.{finish-refused}
+use Rattle.decoder.specs.State.{byteDecoding}
 use borrow.Author.Needs.{needs}
 use Rattle.decoder.proofs.finish.Statement.{statement}
 use Rattle.decoder.proofs.finish.Tie as tie
@@ -32,7 +33,7 @@ returns-2 c =
     let w = c .before in
     let k = w .before .before in
     let a = k .before .before .before .args in
-    finish-refused (a .state) (a .out .now) (a .list .now) (w .why .given .0 .0) (sym (ap admission (w .why .given .1)) ∙ k .admit .ensures)
+    finish-refused byteDecoding (a .state) (a .out .now) (a .list .now) (w .why .given .0 .0) (sym (ap admission (w .why .given .1)) ∙ k .admit .ensures)
 
 pub finish-spec : {M : Type 1} → statement M
 finish-spec =

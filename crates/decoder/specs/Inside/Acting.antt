@@ -15,7 +15,8 @@ use Rattle.terms.specs.declared.First.the-variants.{Nothing, Whole, Damage, Beg
 use Rattle.utf8.specs.Bytes.{bytes}
 use Rattle.utf8.specs.Scalar.{utf8}
 use Rattle.utf8_pending.specs.Tail.{settledSize}
-use Rattle.decoder.specs.State.{numbers, act}
+use Rattle.decoder_shared.specs.Decoding.{numbers}
+use Rattle.decoder.specs.State.{act}
 use Rattle.decoder.specs.declared.tally.Tally.{Tally}
 
 -- ---- segments, as the reader tells of them
@@ -103,16 +104,12 @@ pub record Settles (room : ℕ) (text : List ℕ) (w v : Work) (n : ℕ) : Type 
 abbrev pub passed : List ℕ → Log → Log
 passed run l = record { whole = l .whole + length run; damaged = l .damaged; count = l .count; out = l .out ++ run; list = l .list }
 
--- the list with the entry of a damage behind the first i, if there is room for it
-abbrev pub entered : ℕ → List ℕ → ℕ → ℕ → ℕ → List ℕ
-entered room list i start long = store numbers entryWidth room list i (record { start = start; long = long; tag = damage } ∷ [])
-
--- U+FFFD is written for a damage of n bytes, and it is entered
+-- U+FFFD is written for a damage of n bytes, and it is entered in the list, if there is room
 abbrev pub mended : ℕ → ℕ → Log → Log
 mended room n l = record {
   whole = l .whole;
   damaged = l .damaged + n;
   count = l .count + 1;
   out = l .out ++ utf8 .write replacement;
-  list = entered room (l .list) (l .count) (l .whole + l .damaged) n;
+  list = store numbers entryWidth room (l .list) (l .count) (record { start = l .whole + l .damaged; long = n; tag = damage } ∷ []);
 }

@@ -2,48 +2,37 @@
 use mathlib.Core.Path.{_≡_}
 use Prim.Native.Nat.{ℕ, _+_, _*_, _≤_}
 use mathlib.Core.Bool.{cond}
-use mathlib.Core.List.{List, [], _∷_, _++_, foldl}
+use mathlib.Core.List.{List, [], _∷_, _++_}
 use lib.ListN.{length}
 use lib.Dec.{eqb}
 use Rattle.theory.specs.Reader.{parts}
 use Rattle.theory.specs.Stream.{State}
 use Rattle.theory.specs.Tally.{total, size, Log}
 use Rattle.terms.specs.Limits.{limit, entryWidth}
-use Rattle.terms.specs.Told.{toldRefusal, toldFirst, firstSays, ifGranted}
-use Rattle.terms.specs.Told as told
-use Rattle.terms.specs.Writing.{roomed, outputOf}
+use Rattle.terms.specs.Told.{toldFirst, firstSays, toldWritten}
 use Rattle.terms.specs.declared.Decoder.{Decoder}
 use Rattle.terms.specs.declared.First.{First}
-use Rattle.terms.specs.declared.First.the-variants.{Nothing, Damage}
 use Rattle.utf8.specs.Bytes.{bytes}
-use Rattle.utf8.specs.Pending.{padded}
 use Rattle.utf8_pending.specs.Tail.{firstSettled, four, seamOf}
 use Rattle.utf8_pending.specs.declared.Seam.{Seam}
+use Rattle.decoder_shared.specs.Steps as steps
 use Rattle.decoder.specs.declared.tally.Tally.{Tally}
-use Rattle.decoder.specs.State.{left, act, opened, closed}
+use Rattle.decoder.specs.State.{left, byteDecoding}
 use Rattle.decoder.specs.declared.Fed.{Fed}
-use Rattle.decoder.specs.declared.checks.Admission.{Admission}
-use Rattle.decoder.specs.declared.checks.Admission.the-variants.{Granted, Refused}
-
--- what the checks before a call tell
-abbrev pub admission : Admission → List ℕ
-admission Granted = 0 ∷ []
-admission (Refused r) = toldRefusal r
 
 -- the tally that a state begins with, and the state that keeps a tally and what is left
 abbrev pub tallyOf : Decoder → Tally
 tallyOf d = record { whole = d .whole; damaged = d .damaged; count = d .count; written = 0 }
 
 abbrev pub keeping : List ℕ → Tally → ℕ → ℕ → Decoder
-keeping rest t taken room = record {
-  held = padded rest;
-  pending = length rest;
+keeping rest t taken room = byteDecoding .state (record {
+  left = rest;
   taken = taken;
   whole = t .whole;
   damaged = t .damaged;
   count = t .count;
   room = room;
-}
+})
 
 -- the seam of what is pending and a piece, and as it is handed on: nothing where nothing is pending
 abbrev pub seamed : Decoder → List ℕ → List ℕ
@@ -61,18 +50,8 @@ pub record Rests (d : Decoder) (seg : First) (seam rest list : List ℕ) : Type 
 
 -- the stream behind them
 abbrev pub behind : Decoder → List ℕ → List ℕ → List ℕ → State Log
-behind d seam rest list = record {
-  left = parts bytes rest .left;
-  kept = foldl (act (d .room)) (opened d list .kept) (firstSettled seam ++ parts bytes rest .done);
-}
+behind d seam rest = steps.behind byteDecoding d (firstSettled seam ++ parts bytes rest .done) (parts bytes rest .left)
 
 -- what a feed answers where only the output may be too short, and the stream is this one after it
-pub record Answers (d : Decoder) (taken : ℕ) (s : State Log) (out list out′ list′ : List ℕ) (r : Fed) : Type 0 where
-  pub answer : told.toldWritten (r .answer) ≡ roomed (length out) (s .kept .out)
-  pub state : r .state ≡ ifGranted (roomed (length out) (s .kept .out)) (closed d taken s) d
-  pub output : out′ ≡ outputOf (roomed (length out) (s .kept .out)) (s .kept .out) out
-  pub entries : list′ ≡ ifGranted (roomed (length out) (s .kept .out)) (s .kept .list) list
-
--- at the end pending bytes, if any, are one damage
-abbrev pub lastOf : ℕ → First
-lastOf n = cond (eqb n 0) Nothing (Damage n)
+abbrev pub Answers : Decoder → ℕ → State Log → List ℕ → List ℕ → List ℕ → List ℕ → Fed → Type 0
+Answers d taken s out list out′ list′ r = steps.Answers byteDecoding d taken s out list out′ list′ (toldWritten (r .answer)) (r .state)

@@ -3,6 +3,7 @@ use Prim.Native.Nat.{_+_}
 use mathlib.Core.Path.{_∙_}
 use Rattle.terms.specs.Form.{replacement}
 use Rattle.utf8.specs.Scalar.{utf8}
+use Rattle.decoder_shared.proofs.EntryStored.{entered-is}
 use Rattle.decoder.proofs.SegmentsAct.{put-reached, put-lent}
 use borrow.Author.Needs.{needs}
 use Rattle.decoder.proofs.tally.mend.Statement.{statement}
@@ -20,17 +21,26 @@ part-put-mark-end c = search needs
 put-mark-requires : tie.Need-put-mark-requires
 put-mark-requires c κs = let z = c .before .before .before in put-lent (z .args .out .now) (z .args .tally .written) 3 (z .pre .enough)
 
-note-requires : tie.Need-note-requires
-note-requires c κs = search needs
+add-start : tie.Need-add-start
+add-start c = search needs
 
-add-t9 : tie.Need-add-t9
-add-t9 c = search needs
+cast-enter : tie.Need-cast-enter
+cast-enter c = search needs
 
-add-t14 : tie.Need-add-t14
-add-t14 c = search needs
+cast-enter-2 : tie.Need-cast-enter-2
+cast-enter-2 c = search needs
 
-add-t15 : tie.Need-add-t15
-add-t15 c = search needs
+enter-requires : tie.Need-enter-requires
+enter-requires c κs = search needs
+
+add-t10 : tie.Need-add-t10
+add-t10 c = search needs
+
+add-t17 : tie.Need-add-t17
+add-t17 c = search needs
+
+add-t18 : tie.Need-add-t18
+add-t18 c = search needs
 
 same-length : tie.Need-same-length
 same-length c = search needs
@@ -41,12 +51,12 @@ same-length-2 c = search needs
 returns : tie.Need-returns
 returns c =
     let k = c .before .before .before .before in
-    let p = k .before .before .before .before in
+    let p = k .before .before .before .before .before in
     let z = p .before .before .before .before in
     let a = z .args in
     let t = a .tally in
-    put-reached t (a .out .now) (k .note .last .1 .1 .1 .0) (utf8 .write replacement) (p .put-mark .last .0) (z .pre .enough) (p .put-mark .ensures) (t .whole) (t .damaged + a .n) (t .count + 1)
-    ∙ rw (k .note .ensures)
+    put-reached t (a .out .now) (k .enter .last .0) (utf8 .write replacement) (p .put-mark .last .0) (z .pre .enough) (p .put-mark .ensures) (t .whole) (t .damaged + a .n) (t .count + 1)
+    ∙ rw (k .enter .ensures, entered-is (a .room) (t .count) (t .whole + t .damaged) (a .n) (a .list .now) (z .pre .row))
 
 pub mend-spec : {M : Type 1} → statement M
 mend-spec =
@@ -56,10 +66,13 @@ mend-spec =
     part-put-mark-start
     part-put-mark-end
     put-mark-requires
-    note-requires
-    add-t9
-    add-t14
-    add-t15
+    add-start
+    cast-enter
+    cast-enter-2
+    enter-requires
+    add-t10
+    add-t17
+    add-t18
     same-length
     same-length-2
     returns)

@@ -39,7 +39,7 @@ add-t20 c =
       fits = omega (
         arith,
         z .pre,
-        end-fits (a .text .now) (a .gone) (a .out .now) (a .list .now) (e .if1 .left) (f .finish .ensures)
+        end-fits (a .text .now) (a .gone) (a .out .now) (a .list .now) (e .if1 .left) (f .finish .result) (f .finish .ensures)
             (told .0 .0) (told .0 .1 .0) (told .0 .1 .1 .0) (told .0 .1 .1 .1 .0) (told .1) (z .pre),
       );
     }
@@ -62,7 +62,7 @@ returns-2 c =
     let e = f .before .before .before in
     let a = e .before .before .before .before .before .args in
     let told = c .before .answer .given in
-    end-granted (a .text .now) (a .gone) (a .out .now) (a .list .now) (e .if1 .left) (f .finish .ensures)
+    end-granted (a .text .now) (a .gone) (a .out .now) (a .list .now) (e .if1 .left) (f .finish .result) (f .finish .ensures)
     (told .0 .0) (told .0 .1 .0) (told .0 .1 .1 .0) (told .0 .1 .1 .1 .0) (told .1)
 
 same-length-3 : tie.Need-same-length-3
@@ -77,7 +77,7 @@ returns-3 c =
     let f = t .before .before .before .before .before .before in
     let e = f .before .before .before in
     let a = e .before .before .before .before .before .args in
-    end-refused (a .text .now) (a .gone) (a .out .now) (a .list .now) (e .if1 .left) (f .finish .ensures)
+    end-refused (a .text .now) (a .gone) (a .out .now) (a .list .now) (e .if1 .left) (f .finish .result) (f .finish .ensures)
     (t .enum-told .given .0 .0) (t .enum-told .given .1) (c .nothing2 .result) (c .nothing2 .ensures)
 
 pub end-spec : {M : Type 1} → statement M

@@ -65,7 +65,7 @@ add-t27 c =
       fits = omega (
         arith,
         piece-fits (a .text .now) (a .gone) (a .cut) (a .places) (a .out .now) (a .list .now) (l .before .bring .result) (l .least .result)
-            (l .before .bring .ensures) (l .least .ensures) (f .feed .ensures) (c .before .answer .given .0 .0) (c .before .answer .given .1) (z .pre .1),
+            (l .before .bring .ensures) (l .least .ensures) (f .feed .result) (f .feed .ensures) (c .before .answer .given .0 .0) (c .before .answer .given .1) (z .pre .1),
       );
     }
 
@@ -84,7 +84,7 @@ returns c =
     let l = f .before .before .before .before in
     let a = l .before .before .before .before .before .args in
     piece-granted (a .text .now) (a .gone) (a .cut) (a .places) (a .out .now) (a .list .now) (l .before .bring .result) (l .least .result)
-    (l .before .bring .ensures) (l .least .ensures) (f .feed .ensures) (c .before .answer .given .0 .0) (c .before .answer .given .1)
+    (l .before .bring .ensures) (l .least .ensures) (f .feed .result) (f .feed .ensures) (c .before .answer .given .0 .0) (c .before .answer .given .1)
 
 same-length-3 : tie.Need-same-length-3
 same-length-3 c = search needs
@@ -98,7 +98,7 @@ returns-2 c =
     let l = f .before .before .before .before in
     let a = l .before .before .before .before .before .args in
     piece-refused (a .text .now) (a .gone) (a .cut) (a .places) (a .out .now) (a .list .now) (l .before .bring .result) (l .least .result)
-    (l .before .bring .ensures) (l .least .ensures) (f .feed .ensures) (c .enum-told .given .0 .0) (c .enum-told .given .1)
+    (l .before .bring .ensures) (l .least .ensures) (f .feed .result) (f .feed .ensures) (c .enum-told .given .0 .0) (c .enum-told .given .1)
 
 pub feed-piece-spec : {M : Type 1} → statement M
 feed-piece-spec =
