@@ -1,0 +1,42 @@
+-- `tally::strike` meets its contract: the entry is the log's.
+use Prim.Native.Nat.{_+_}
+use mathlib.Core.Path.{ap, _∙_}
+use Rattle.decoder_shared.specs.Steps.{counted}
+use Rattle.decoder_shared.proofs.EntryStored.{entered-is}
+use borrow.Author.Needs.{needs}
+use Rattle.decoder_to_utf16.proofs.tally.strike.Statement.{statement}
+use Rattle.decoder_to_utf16.proofs.tally.strike.Tie as tie
+
+add-start : tie.Need-add-start
+add-start c = search needs
+
+cast-enter : tie.Need-cast-enter
+cast-enter c = search needs
+
+cast-enter-2 : tie.Need-cast-enter-2
+cast-enter-2 c = search needs
+
+enter-requires : tie.Need-enter-requires
+enter-requires c κs = search needs
+
+add-t11 : tie.Need-add-t11
+add-t11 c = search needs
+
+add-t12 : tie.Need-add-t12
+add-t12 c = search needs
+
+same-length : tie.Need-same-length
+same-length c = search needs
+
+returns : tie.Need-returns
+returns c =
+    let e = c .before .before .before .before in
+    let z = e .before .before .before .before in
+    let t = z .args .tally in
+    ap (counted (t .whole) (t .damaged + z .args .n) (t .count + 1))
+    (e .enter .ensures ∙ entered-is (z .args .room) (t .count) (t .whole + t .damaged) (z .args .n) (z .args .list .now) (z .pre .row))
+
+pub strike-spec : {M : Type 1} → statement M
+strike-spec =
+    tie.close
+    (tie.spec add-start cast-enter cast-enter-2 enter-requires add-t11 add-t12 same-length returns)

@@ -1,0 +1,87 @@
+// What is settled of a byte text is tallied: its bytes in whole segments and in damage, its damages, and their entries.
+use terms::First;
+use utf8_check::Pace;
+ghost use mathlib.Core.Path.{_≡_};
+ghost use mathlib.Core.List.{List};
+ghost use Prim.Native.Nat.{ℕ, _+_, _≤_};
+ghost use lib.ListN.{length};
+ghost use Rattle.terms.specs.Limits.{limit};
+ghost use Rattle.terms.specs.Told.{sizeOf};
+ghost use Rattle.utf8.specs.Bytes.{bytes};
+ghost use Rattle.decoder_shared.specs.Steps.{Fits, Settles, passed, struck, talliedAs};
+ghost use Rattle.decoder_to_utf16.specs.Inside.Tallying.{logOf};
+
+// What is kept of the segments so far: bytes in whole segments and in damage, and damages.
+pub(crate) struct Tally {
+    pub whole: usize,
+    pub damaged: usize,
+    pub count: usize,
+}
+
+// What the settled segments of a text made of a tally, and how many bytes they have.
+pub(crate) struct Settled {
+    pub tally: Tally,
+    pub size: usize,
+}
+
+// So many bytes in whole segments are counted.
+fn pass(n: usize, tally: Tally) -> Tally
+    requires { ⌜ tally .whole + n ≤ limit ⌝ }
+    ensures { λ r. ⌜ ((list : List ℕ) → logOf r list ≡ passed n (logOf tally list)) ⌝ }
+{
+    Tally {
+        whole: tally.whole + n,
+        damaged: tally.damaged,
+        count: tally.count,
+    }
+}
+
+// A damage of so many bytes is entered, where the list has room for it, and counted.
+pub(crate) fn strike(n: usize, tally: Tally, room: usize, list: &mut [u32]) -> Tally
+    requires { ⌜ Fits room n (logOf tally (now list)) ⌝ }
+    ensures { λ r. ⌜ logOf r (now (list .exit)) ≡ struck room n (logOf tally (now (list .entry))) ⌝ }
+{
+    let start = tally.whole + tally.damaged;
+    decoder_shared::enter(list, room, tally.count, start as u32, n as u32);
+    Tally {
+        whole: tally.whole,
+        damaged: tally.damaged + n,
+        count: tally.count + 1,
+    }
+}
+
+// The segment that stands first in a text is tallied, if it is settled.
+pub(crate) fn count(seg: First, tally: Tally, room: usize, list: &mut [u32]) -> Tally
+    requires { ⌜ Fits room (sizeOf seg) (logOf tally (now list)) ⌝ }
+    ensures { λ r. ⌜ logOf r (now (list .exit)) ≡ talliedAs room seg (logOf tally (now (list .entry))) ⌝ }
+{
+    match seg {
+        First::Nothing => tally,
+        First::Whole(n) => pass(n, tally),
+        First::Damage(n) => strike(n, tally, room, list),
+        First::Begun(_) => tally,
+    }
+}
+
+// Each settled segment of a text is tallied in its turn; runs of whole segments go at once.
+pub(crate) fn walk(text: &[u8], tally: Tally, room: usize, list: &mut [u32]) -> Settled
+    requires { ⌜ Fits room (length (now text)) (logOf tally (now list)) ⌝ }
+    ensures { λ r. ⌜ Settles bytes room (now (text .entry)) (logOf tally (now (list .entry))) (logOf (r .tally) (now (list .exit))) (r .size) ⌝ }
+{
+    let mut tally = tally;
+    let mut at: usize = 0;
+    let mut pace = Pace::START;
+    loop {
+        let run = utf8_check::paced_run(&text[at..], pace);
+        tally = pass(run, tally);
+        at += run;
+        let seg = utf8::segment(&text[at..]);
+        let size = utf8_pending::settled_size(seg);
+        if size == 0 {
+            return Settled { tally, size: at };
+        }
+        tally = count(seg, tally, room, list);
+        at += size;
+        pace = utf8_check::pace_behind(pace, run);
+    }
+}
