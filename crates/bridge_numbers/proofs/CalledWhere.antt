@@ -4,7 +4,7 @@ use Prim.Native.Nat.{ℕ, _≤_, _<_}
 use mathlib.Core.Bool.{Bool, true, false, _&&_}
 use mathlib.Core.List.{List}
 use lib.ListN.{length}
-use lib.Dec.{eqb}
+use lib.Dec.{leb, eqb}
 use borrow.Author.Tests.{le-leb, lt-leb, lt-ltb, le-ltb}
 use Rattle.theory.proofs.Cases.{split}
 use Rattle.place.specs.Walk.{number, measure}
@@ -12,29 +12,31 @@ use Rattle.place.specs.declared.Offset.{Offset}
 use Rattle.place.specs.declared.Place.{Place}
 use Rattle.bridge_numbers.specs.Telling.{roomy}
 use Rattle.bridge_numbers.specs.Keeping.{writable}
-use Rattle.bridge_numbers.specs.States.{isState, ready, asked, measureOf, offsetOf}
+use Rattle.bridge_numbers.specs.States.{asked, measureOf, offsetOf}
 
 -- ---- a state
 
-module _ (n : ℕ) (s : List ℕ) where
-  module _ (says : List ℕ) where
-    pub not-state : isState n s ≡ false → ready n s says ≡ false
-    not-state e = ap (λ (t : Bool). t && roomy says) e
+-- by any test of it
+module _ (test : Bool) (says : List ℕ) where
+  pub not-state : test ≡ false → test && roomy says ≡ false
+  not-state e = ap (λ (t : Bool). t && roomy says) e
 
-    pub not-roomy : isState n s ≡ true → length says < 8 → ready n s says ≡ false
-    not-roomy e h = ap (λ (t : Bool). t && roomy says) e ∙ lt-leb 8 (length says) h
+  pub not-roomy : test ≡ true → length says < 8 → test && roomy says ≡ false
+  not-roomy e h = ap (λ (t : Bool). t && roomy says) e ∙ lt-leb 8 (length says) h
 
-    pub is-ready : isState n s ≡ true → 8 ≤ length says → ready n s says ≡ true
-    is-ready e h = ap (λ (t : Bool). t && roomy says) e ∙ le-leb 8 (length says) h
+  pub is-ready : test ≡ true → 8 ≤ length says → test && roomy says ≡ true
+  is-ready e h = ap (λ (t : Bool). t && roomy says) e ∙ le-leb 8 (length says) h
 
-    pub not-long : length s < n → writable n s says ≡ false
-    not-long h = ap (λ (t : Bool). t && roomy says) (lt-leb n (length s) h)
+-- and of its length alone
+module _ (n : ℕ) (s says : List ℕ) where
+  pub not-long : length s < n → writable n s says ≡ false
+  not-long h = not-state (leb n (length s)) says (lt-leb n (length s) h)
 
-    pub not-both : n ≤ length s → length says < 8 → writable n s says ≡ false
-    not-both l h = ap (λ (t : Bool). t && roomy says) (le-leb n (length s) l) ∙ lt-leb 8 (length says) h
+  pub not-both : n ≤ length s → length says < 8 → writable n s says ≡ false
+  not-both l = not-roomy (leb n (length s)) says (le-leb n (length s) l)
 
-    pub is-writable : n ≤ length s → 8 ≤ length says → writable n s says ≡ true
-    is-writable l h = ap (λ (t : Bool). t && roomy says) (le-leb n (length s) l) ∙ le-leb 8 (length says) h
+  pub is-writable : n ≤ length s → 8 ≤ length says → writable n s says ≡ true
+  is-writable l = is-ready (leb n (length s)) says (le-leb n (length s) l)
 
 -- ---- a place and a kind
 

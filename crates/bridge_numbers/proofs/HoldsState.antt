@@ -9,7 +9,7 @@ use borrow.Author.Tests.{le-leb, lt-leb, lt-ltb, le-ltb, leb-true}
 use Rattle.theory.proofs.Cases.{both}
 use Rattle.terms.specs.Limits.{mostPending}
 use Rattle.bridge_numbers.specs.Telling.{put}
-use Rattle.bridge_numbers.specs.States.{isState, kept}
+use Rattle.bridge_numbers.specs.States.{isState, isUnitState, kept}
 
 module _ (n : ℕ) (s : List ℕ) where
   pub state-short : length s < n → false ≡ isState n s
@@ -45,3 +45,15 @@ module _ (n : ℕ) (s : List ℕ) where
 
   pub kept-long : (numbers : List ℕ) → n ≤ length s → kept n numbers s ≡ put numbers s
   kept-long numbers h = rw (le-leb n (length s) h)
+
+-- ---- the state of a decoder of units
+
+pub unit-state-short : (s : List ℕ) → length s < 7 → false ≡ isUnitState s
+unit-state-short s h = rw (lt-leb 7 (length s) h)
+
+pub unit-state-held : (s : List ℕ) → 7 ≤ length s → ltb (getD s 0 0) 0x10000 ≡ isUnitState s
+unit-state-held s h = rw (le-leb 7 (length s) h)
+
+-- it has so many numbers
+pub unit-state-long : (s : List ℕ) → isUnitState s ≡ true → 7 ≤ length s
+unit-state-long s e = leb-true 7 (length s) (both (leb 7 (length s)) (ltb (getD s 0 0) 0x10000) e .0)

@@ -8,6 +8,7 @@ use Rattle.terms.specs.Limits.{mostPending}
 use Rattle.terms.specs.declared.Decoder.{Decoder}
 use Rattle.terms.specs.declared.First.{First}
 use Rattle.terms.specs.declared.First.the-variants.{Nothing, Whole, Damage, Begun}
+use Rattle.decoder_from_utf16.specs.declared.UnitDecoder.{UnitDecoder}
 use Rattle.place.specs.declared.Offset.{Offset}
 use Rattle.place.specs.declared.Offset.the-variants.{Byte, Unit, Point, Line}
 use Rattle.place.specs.declared.Place.{Place}
@@ -45,6 +46,28 @@ decoderOf s = record {
 abbrev pub decoderNumbers : Decoder → List ℕ
 decoderNumbers d =
     getD (d .held) 0 0 ∷ getD (d .held) 1 0 ∷ getD (d .held) 2 0 ∷ d .pending ∷ d .taken ∷ d .whole ∷ d .damaged ∷ d .count ∷ d .room ∷ []
+
+-- a slice of at least seven numbers, of which the first is a unit; and the state of the decoder of units that it is: held, pending, taken,
+-- whole, damaged, count, room
+abbrev pub isUnitState : List ℕ → Bool
+isUnitState s = leb 7 (length s) && ltb (getD s 0 0) 0x10000
+
+abbrev pub unitReady : List ℕ → List ℕ → Bool
+unitReady state says = isUnitState state && roomy says
+
+abbrev pub unitDecoderOf : List ℕ → UnitDecoder
+unitDecoderOf s = record {
+  held = (getD s 0 0 % 0x10000) ∷ [];
+  pending = getD s 1 0;
+  taken = getD s 2 0;
+  whole = getD s 3 0;
+  damaged = getD s 4 0;
+  count = getD s 5 0;
+  room = getD s 6 0;
+}
+
+abbrev pub unitDecoderNumbers : UnitDecoder → List ℕ
+unitDecoderNumbers d = getD (d .held) 0 0 ∷ d .pending ∷ d .taken ∷ d .whole ∷ d .damaged ∷ d .count ∷ d .room ∷ []
 
 -- the builder's state: held, pending, taken, units, points, lines
 abbrev pub builderOf : List ℕ → Builder

@@ -1,4 +1,5 @@
 // The states and a place, read from numbers in a lent slice and kept there.
+use decoder_from_utf16::UnitDecoder;
 use index_build::Builder;
 use place::Bytes;
 use place::Lines;
@@ -13,7 +14,7 @@ ghost use mathlib.Core.Path.{_≡_};
 ghost use lib.ListN.{length, getD};
 ghost use Rattle.index_checkpoint.specs.Checkpoints.{placeOf};
 ghost use Rattle.bridge_numbers.specs.Telling.{put};
-ghost use Rattle.bridge_numbers.specs.States.{isState, heldOf, decoderOf, decoderNumbers, builderOf, builderNumbers, kept, offsetOf, firstOf};
+ghost use Rattle.bridge_numbers.specs.States.{isState, heldOf, decoderOf, decoderNumbers, isUnitState, unitDecoderOf, unitDecoderNumbers, builderOf, builderNumbers, kept, offsetOf, firstOf};
 
 // Are there so many numbers, and at least three, of which the first three are bytes?
 pub fn is_state(numbers: &[usize], n: usize) -> bool
@@ -102,6 +103,51 @@ pub fn keep_decoder(d: Decoder, state: &mut [usize])
         crate::telling::wide(held[0]),
         crate::telling::wide(held[1]),
         crate::telling::wide(held[2]),
+        d.pending,
+        d.taken,
+        d.whole,
+        d.damaged,
+        d.count,
+        d.room,
+    ];
+    copy(&numbers, state);
+}
+
+// Are there seven numbers, of which the first is a unit?
+pub fn is_unit_state(numbers: &[usize]) -> bool
+    ensures { λ r. ⌜ r ≡ isUnitState (now (numbers .entry)) ⌝ }
+{
+    if numbers.len() < 7 {
+        return false;
+    }
+    numbers[0] < 0x10000
+}
+
+// The state of the decoder of units: held, by its last sixteen bits, pending, taken, whole, damaged, count, room.
+pub fn unit_decoder_of(numbers: &[usize]) -> UnitDecoder
+    ensures { λ r. ⌜ r ≡ unitDecoderOf (now (numbers .entry)) ⌝ }
+{
+    UnitDecoder {
+        held: [(number_at(numbers, 0) % 0x10000) as u16],
+        pending: number_at(numbers, 1),
+        taken: number_at(numbers, 2),
+        whole: number_at(numbers, 3),
+        damaged: number_at(numbers, 4),
+        count: number_at(numbers, 5),
+        room: number_at(numbers, 6),
+    }
+}
+
+// Keeps the state of a decoder of units in a slice that has the places for it.
+pub fn keep_unit_decoder(d: UnitDecoder, state: &mut [usize])
+    ensures { λ r. ⌜ now (state .exit) ≡ kept 7 (unitDecoderNumbers d) (now (state .entry)) ⌝ }
+{
+    if state.len() < 7 {
+        return;
+    }
+    let held = d.held;
+    let numbers = [
+        held[0] as usize,
         d.pending,
         d.taken,
         d.whole,

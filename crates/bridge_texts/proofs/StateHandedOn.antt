@@ -6,10 +6,12 @@ use mathlib.Core.List.{List}
 use lib.ListN.{length}
 use Rattle.terms.specs.Told.{toldWritten}
 use Rattle.terms.specs.declared.Decoder.{Decoder}
-use Rattle.decoder.specs.Feeding as call
-use Rattle.decoder.specs.declared.Started.{Started}
-use Rattle.decoder.specs.declared.Fed.{Fed}
-use Rattle.decoder.specs.declared.Finished.{Finished}
+use Rattle.terms.specs.declared.Written.{Written}
+use Rattle.decoder_shared.specs.Decoding.{Decoding}
+use Rattle.decoder_shared.specs.Calls as call
+use Rattle.decoder.specs.Feeding.{toldOpening, toldTotal}
+use Rattle.decoder.specs.declared.Opening.{Opening}
+use Rattle.decoder.specs.declared.Total.{Total}
 use Rattle.decoder_watch.specs.Watching.{watching}
 use Rattle.decoder_watch.specs.declared.Watched.{Watched}
 use Rattle.bridge_numbers.specs.Telling.{saying, saidOf, put, notCalled, Tells}
@@ -20,48 +22,47 @@ use Rattle.bridge_numbers.proofs.AllSaid.{said-written, said-opening, said-tota
 use Rattle.bridge_numbers.proofs.WrapperTells.{as-said}
 use Rattle.bridge_texts.specs.Keeping.{Starts, Feeds, Finishes, Watches}
 
-pub unstarted : {called : Bool} {room : ℕ} {state says : List ℕ} → called ≡ false → Starts called room state state says says notCalled
-unstarted e = rw e (record { tells = record { reply = refl; told = refl }; next = refl })
+-- ---- over any decoder, whose state is n numbers
 
-pub started : {called : Bool} {room : ℕ} {state state′ says says′ : List ℕ} {r : ℕ} {f : Started} {s : Said} → called ≡ true
-    → call.Starts room f → 9 ≤ length state → state′ ≡ kept 9 (decoderNumbers (f .state)) state → s ≡ saidOf (call.toldOpening (f .answer))
-    → Tells true (saying s) says says′ r → Starts called room state state′ says says′ r
-started {state = state} {f = v} e f long k s t =
-    rw e (record { tells = as-said (said-opening (v .answer) s ∙ f .answer) t; next = k ∙ kept-long 9 state (decoderNumbers (v .state)) long ∙ ap (λ (d : Decoder). put (decoderNumbers d) state) (f .state) })
+module _ {S : Type 0} (D : Decoding S) (numbers : S → List ℕ) (n : ℕ) where
+  -- the next state stands there
+  put-is : (state : List ℕ) {state′ : List ℕ} {d q : S} → n ≤ length state → state′ ≡ kept n (numbers d) state → d ≡ q → state′ ≡ put (numbers q) state
+  put-is state {d = d} long k e = k ∙ kept-long n state (numbers d) long ∙ ap (λ (x : S). put (numbers x) state) e
 
-pub unfed : {called : Bool} {d : Decoder} {piece out list state says : List ℕ} → called ≡ false
-    → Feeds called d piece out list out list state state says says notCalled
-unfed e = rw e (record { tells = record { reply = refl; told = refl }; next = refl; output = refl; entries = refl })
+  pub unstarted : {called : Bool} {room : ℕ} {state says : List ℕ} → called ≡ false → Starts D numbers called room state state says says notCalled
+  unstarted e = rw e (record { tells = record { reply = refl; told = refl }; next = refl })
 
-pub was-fed : {called : Bool} {d q : Decoder} {piece out list out′ list′ state state′ says says′ : List ℕ} {r : ℕ} {f : Fed} {s : Said}
-    → called ≡ true → q ≡ d → call.Feeds q piece out list out′ list′ f → 9 ≤ length state → state′ ≡ kept 9 (decoderNumbers (f .state)) state
-    → s ≡ saidOf (toldWritten (f .answer)) → Tells true (saying s) says says′ r
-    → Feeds called d piece out list out′ list′ state state′ says says′ r
-was-fed {state = state} {f = v} e q f long k s t =
-    rw (e, ← q)
-    (record {
-      tells = as-said (said-written (v .answer) s ∙ f .answer) t;
-      next = k ∙ kept-long 9 state (decoderNumbers (v .state)) long ∙ ap (λ (d : Decoder). put (decoderNumbers d) state) (f .state);
-      output = f .output;
-      entries = f .entries;
-    })
+  pub started : {called : Bool} {room : ℕ} {state state′ says says′ : List ℕ} {r : ℕ} {s : Said} → called ≡ true → (a : Opening) (d : S)
+      → call.Starts D room (toldOpening a) d → n ≤ length state → state′ ≡ kept n (numbers d) state → s ≡ saidOf (toldOpening a)
+      → Tells true (saying s) says says′ r → Starts D numbers called room state state′ says says′ r
+  started {state = state} e a d f long k s t =
+      rw e (record { tells = as-said (said-opening a s ∙ f .answer) t; next = put-is state long k (f .state) })
 
-pub unfinished : {called : Bool} {d : Decoder} {out list state says : List ℕ} → called ≡ false
-    → Finishes called d out list out list state state says says notCalled
-unfinished e = rw e (record { tells = record { reply = refl; told = refl }; next = refl; output = refl; entries = refl })
+  pub unfed : {called : Bool} {d : S} {piece out list state says : List ℕ} → called ≡ false
+      → Feeds D numbers called d piece out list out list state state says says notCalled
+  unfed e = rw e (record { tells = record { reply = refl; told = refl }; next = refl; output = refl; entries = refl })
 
-pub was-finished : {called : Bool} {d q : Decoder} {out list out′ list′ state state′ says says′ : List ℕ} {r : ℕ} {f : Finished} {s : Said}
-    → called ≡ true → q ≡ d → call.Finishes q out list out′ list′ f → 9 ≤ length state → state′ ≡ kept 9 (decoderNumbers (f .state)) state
-    → s ≡ saidOf (call.toldTotal (f .answer)) → Tells true (saying s) says says′ r
-    → Finishes called d out list out′ list′ state state′ says says′ r
-was-finished {state = state} {f = v} e q f long k s t =
-    rw (e, ← q)
-    (record {
-      tells = as-said (said-total (v .answer) s ∙ f .answer) t;
-      next = k ∙ kept-long 9 state (decoderNumbers (v .state)) long ∙ ap (λ (d : Decoder). put (decoderNumbers d) state) (f .state);
-      output = f .output;
-      entries = f .entries;
-    })
+  pub was-fed : {called : Bool} {d q : S} {piece out list out′ list′ state state′ says says′ : List ℕ} {r : ℕ} {s : Said}
+      → called ≡ true → q ≡ d → (a : Written) (x : S) → call.Feeds D q piece out list out′ list′ (toldWritten a) x → n ≤ length state
+      → state′ ≡ kept n (numbers x) state → s ≡ saidOf (toldWritten a) → Tells true (saying s) says says′ r
+      → Feeds D numbers called d piece out list out′ list′ state state′ says says′ r
+  was-fed {state = state} e q a x f long k s t =
+      rw (e, ← q)
+      (record { tells = as-said (said-written a s ∙ f .answer) t; next = put-is state long k (f .state); output = f .output; entries = f .entries })
+
+  pub unfinished : {called : Bool} {d : S} {out list state says : List ℕ} → called ≡ false
+      → Finishes D numbers called d out list out list state state says says notCalled
+  unfinished e = rw e (record { tells = record { reply = refl; told = refl }; next = refl; output = refl; entries = refl })
+
+  pub was-finished : {called : Bool} {d q : S} {out list out′ list′ state state′ says says′ : List ℕ} {r : ℕ} {s : Said}
+      → called ≡ true → q ≡ d → (a : Total) (x : S) → call.Finishes D q out list out′ list′ (toldTotal a) x → n ≤ length state
+      → state′ ≡ kept n (numbers x) state → s ≡ saidOf (toldTotal a) → Tells true (saying s) says says′ r
+      → Finishes D numbers called d out list out′ list′ state state′ says says′ r
+  was-finished {state = state} e q a x f long k s t =
+      rw (e, ← q)
+      (record { tells = as-said (said-total a s ∙ f .answer) t; next = put-is state long k (f .state); output = f .output; entries = f .entries })
+
+-- ---- the watch
 
 pub unwatched : {called : Bool} {d : Decoder} {b : ℕ} {state : List ℕ} → called ≡ false → Watches called d b state state notCalled
 unwatched e = rw e (record { reply = refl; next = refl })

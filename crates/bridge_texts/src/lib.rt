@@ -4,7 +4,9 @@
 
 pub mod pending;
 pub mod pieces;
+pub mod pieces_to_units;
 pub mod read;
 pub mod room;
+pub mod unit_pieces;
 pub mod watch;
 pub mod write;

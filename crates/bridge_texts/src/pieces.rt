@@ -1,12 +1,13 @@
 // Repair of a text that comes in pieces, and the watch by value: a state is nine numbers, and the next one is put where it stood.
-ghost use Rattle.bridge_numbers.specs.States.{isState, ready, decoderOf};
+ghost use Rattle.decoder.specs.State.{byteDecoding};
+ghost use Rattle.bridge_numbers.specs.States.{isState, ready, decoderOf, decoderNumbers};
 ghost use Rattle.bridge_numbers.specs.Keeping.{writable};
 ghost use Rattle.bridge_texts.specs.Keeping.{Starts, Feeds, Finishes, Watches};
 
 // moxandril::pieces::start: 0, or the refusal; the fresh state is put whichever it is.
 #[no_mangle]
 pub extern "C" fn bridge_pieces_start(room: usize, state: &mut [usize], says: &mut [usize]) -> usize
-    ensures { λ r. ⌜ Starts (writable 9 (now (state .entry)) (now (says .entry))) room
+    ensures { λ r. ⌜ Starts byteDecoding decoderNumbers (writable 9 (now (state .entry)) (now (says .entry))) room
         (now (state .entry)) (now (state .exit)) (now (says .entry)) (now (says .exit)) r ⌝ }
 {
     if state.len() < 9 {
@@ -31,7 +32,7 @@ pub extern "C" fn bridge_pieces_feed(
     list: &mut [u32],
     says: &mut [usize],
 ) -> usize
-    ensures { λ r. ⌜ Feeds (ready 9 (now (state .entry)) (now (says .entry))) (decoderOf (now (state .entry)))
+    ensures { λ r. ⌜ Feeds byteDecoding decoderNumbers (ready 9 (now (state .entry)) (now (says .entry))) (decoderOf (now (state .entry)))
         (now (piece .entry)) (now (out .entry)) (now (list .entry)) (now (out .exit)) (now (list .exit))
         (now (state .entry)) (now (state .exit)) (now (says .entry)) (now (says .exit)) r ⌝ }
 {
@@ -56,7 +57,7 @@ pub extern "C" fn bridge_pieces_finish(
     list: &mut [u32],
     says: &mut [usize],
 ) -> usize
-    ensures { λ r. ⌜ Finishes (ready 9 (now (state .entry)) (now (says .entry))) (decoderOf (now (state .entry)))
+    ensures { λ r. ⌜ Finishes byteDecoding decoderNumbers (ready 9 (now (state .entry)) (now (says .entry))) (decoderOf (now (state .entry)))
         (now (out .entry)) (now (list .entry)) (now (out .exit)) (now (list .exit))
         (now (state .entry)) (now (state .exit)) (now (says .entry)) (now (says .exit)) r ⌝ }
 {

@@ -3,6 +3,8 @@ use moxandril::Target;
 ghost use mathlib.Core.Path.{_≡_};
 ghost use Rattle.convert_point.specs.Room.{mostOf};
 ghost use Rattle.decoder.specs.Room.{mostFed};
+ghost use Rattle.decoder_from_utf16.specs.Room as unitRoom;
+ghost use Rattle.decoder_to_utf16.specs.Room as toUnitsRoom;
 ghost use Rattle.bridge_texts.specs.Needing.{targetOf};
 
 // 0 bytes, 1 units, else code points.
@@ -34,4 +36,20 @@ pub extern "C" fn bridge_pieces_most(n: usize) -> usize
     ensures { λ r. ⌜ r ≡ mostFed n ⌝ }
 {
     moxandril::pieces::most(n)
+}
+
+// moxandril::unit_pieces::most of so many units.
+#[no_mangle]
+pub extern "C" fn bridge_unit_pieces_most(n: usize) -> usize
+    ensures { λ r. ⌜ r ≡ unitRoom.mostFed n ⌝ }
+{
+    moxandril::unit_pieces::most(n)
+}
+
+// moxandril::pieces_to_units::most of so many bytes.
+#[no_mangle]
+pub extern "C" fn bridge_pieces_to_units_most(n: usize) -> usize
+    ensures { λ r. ⌜ r ≡ toUnitsRoom.mostFed n ⌝ }
+{
+    moxandril::pieces_to_units::most(n)
 }

@@ -3,9 +3,11 @@
 mod bytes;
 mod index;
 mod pieces;
+mod pieces_to_units;
 mod places;
 mod points;
 mod show;
+mod unit_pieces;
 mod units;
 
 fn main() {
@@ -13,6 +15,8 @@ fn main() {
     crate::units::examples();
     crate::points::examples();
     crate::pieces::examples();
+    crate::unit_pieces::examples();
+    crate::pieces_to_units::examples();
     crate::places::examples();
     crate::index::examples();
 }

@@ -6,7 +6,7 @@ use moxandril::pieces::Decoder;
 use moxandril::pieces::Opening;
 use moxandril::pieces::Total;
 
-fn opened(answer: Opening) {
+pub(crate) fn opened(answer: Opening) {
     match answer {
         Opening::Ready => put(b" ready"),
         Opening::Refused(r) => crate::show::refused(r),
@@ -32,9 +32,9 @@ fn feed(state: Decoder, piece: &[u8], list: &mut [u32]) -> Decoder {
     fed.state
 }
 
-// How many bytes were written; then the bytes in whole segments, the damaged bytes and the damages.
-fn totals(answer: Total) {
-    put(b"pieces::finish ->");
+// How many places were written; then the elements in whole segments, the damaged ones and the damages.
+pub(crate) fn totals(name: &[u8], answer: Total) {
+    put(name);
     match answer {
         Total::Given {
             written,
@@ -56,7 +56,7 @@ fn totals(answer: Total) {
 fn finish(state: Decoder, list: &mut [u32]) {
     let mut out = [0u8; 64];
     let answer = moxandril::pieces::finish(state, &mut out, list).answer;
-    totals(answer);
+    totals(b"pieces::finish ->", answer);
     crate::show::list_line(list);
 }
 

@@ -58,6 +58,34 @@ pub mod pieces {
     pub use terms::Decoder;
 }
 
+// Repair of a text of UTF-16 units that comes in pieces, written as bytes.
+pub mod unit_pieces {
+    pub use decoder::Opening;
+    pub use decoder::Total;
+    pub use decoder_from_utf16::Fed;
+    pub use decoder_from_utf16::Finished;
+    pub use decoder_from_utf16::Started;
+    pub use decoder_from_utf16::UnitDecoder;
+    pub use decoder_from_utf16::feed;
+    pub use decoder_from_utf16::finish;
+    pub use decoder_from_utf16::most;
+    pub use decoder_from_utf16::start;
+}
+
+// Repair of a byte text that comes in pieces, written as UTF-16 units.
+pub mod pieces_to_units {
+    pub use decoder::Fed;
+    pub use decoder::Finished;
+    pub use decoder::Opening;
+    pub use decoder::Started;
+    pub use decoder::Total;
+    pub use decoder::start;
+    pub use decoder_to_utf16::feed;
+    pub use decoder_to_utf16::finish;
+    pub use decoder_to_utf16::most;
+    pub use terms::Decoder;
+}
+
 // Places in a byte text, by bytes, UTF-16 units, code points or lines; and cutting.
 pub mod places {
     pub use place::Bytes;

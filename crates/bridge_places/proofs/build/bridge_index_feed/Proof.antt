@@ -24,7 +24,7 @@ same-length c = search needs
 returns : tie.Need-returns
 returns c =
     let a = c .before .before .before .before .before .before .before .args in
-    unbuilt (not-state 8 (a .state .now) (a .says .now) (sym (c .before .is-state .ensures) ∙ not-true _ (c .if1 .taken)))
+    unbuilt (not-state (isState 8 (a .state .now)) (a .says .now) (sym (c .before .is-state .ensures) ∙ not-true _ (c .if1 .taken)))
 
 same-length-2 : tie.Need-same-length-2
 same-length-2 c = search needs
@@ -32,7 +32,7 @@ same-length-2 c = search needs
 returns-2 : tie.Need-returns-2
 returns-2 c =
     let a = c .before .before .before .before .before .before .before .before .args in
-    unbuilt (not-roomy 8 (a .state .now) (a .says .now) (passed (c .before)) (c .if2 .taken))
+    unbuilt (not-roomy (isState 8 (a .state .now)) (a .says .now) (passed (c .before)) (c .if2 .taken))
 
 builder-of-requires : tie.Need-builder-of-requires
 builder-of-requires c κs = search needs
@@ -64,7 +64,7 @@ returns-3 c =
     let k = c .before .before .before .before .before .before .before in
     let e = c .before .before .before .before .before .before .before .before .before .before .before .before .before .before .before .before in
     let a = c .before .before .before .before .before .before .before .before .before .before .before .before .before .before .before .before .before .before .before .before .before .before .before .before .args in
-    was-built (is-ready 8 (a .state .now) (a .says .now) (passed (c .before .before .before .before .before .before .before .before .before .before .before .before .before .before .before .before .before)) (e .if2 .left)) (c .before .before .before .before .before .before .before .before .before .before .before .before .before .before .builder-of .ensures)
+    was-built (is-ready (isState 8 (a .state .now)) (a .says .now) (passed (c .before .before .before .before .before .before .before .before .before .before .before .before .before .before .before .before .before)) (e .if2 .left)) (c .before .before .before .before .before .before .before .before .before .before .before .before .before .before .builder-of .ensures)
     (c .before .before .before .before .before .before .before .before .before .before .before .before .feed .ensures) (state-long 8 (a .state .now) (passed (c .before .before .before .before .before .before .before .before .before .before .before .before .before .before .before .before .before))) (k .keep-builder .ensures) (c .before .before .before .before .say-building .ensures) (roomed (e .if2 .left) (t .tell .ensures))
 
 pub bridge-index-feed-spec : {M : Type 1} → statement M

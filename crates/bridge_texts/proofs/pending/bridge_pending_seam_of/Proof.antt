@@ -24,7 +24,7 @@ is-state-requires c κs = search needs
 returns : tie.Need-returns
 returns c =
     let a = c .before .before .before .before .before .args in
-    untold (not-state 3 (a .held .now) (a .says .now) (sym (c .before .is-state .ensures) ∙ not-true _ (c .if1 .taken)))
+    untold (not-state (isState 3 (a .held .now)) (a .says .now) (sym (c .before .is-state .ensures) ∙ not-true _ (c .if1 .taken)))
 
 held-of-requires : tie.Need-held-of-requires
 held-of-requires c κs = search needs

@@ -2,7 +2,8 @@
 use mathlib.Core.Path.{_≡_, sym, _∙_}
 use mathlib.Core.Bool.{true}
 use borrow.Author.Tests.{not-true, not-false}
-use Rattle.bridge_numbers.specs.States.{isState}
+use Rattle.decoder.specs.State.{byteDecoding}
+use Rattle.bridge_numbers.specs.States.{isState, decoderNumbers}
 use Rattle.bridge_numbers.proofs.HoldsState.{state-long}
 use Rattle.bridge_numbers.proofs.WrapperTells.{roomed}
 use Rattle.bridge_numbers.proofs.CalledWhere.{not-state, not-roomy, is-ready}
@@ -24,7 +25,7 @@ same-length c = search needs
 returns : tie.Need-returns
 returns c =
     let a = c .before .before .before .before .before .before .before .before .args in
-    unfed (not-state 9 (a .state .now) (a .says .now) (sym (c .before .is-state .ensures) ∙ not-true _ (c .if1 .taken)))
+    unfed byteDecoding decoderNumbers 9 (not-state (isState 9 (a .state .now)) (a .says .now) (sym (c .before .is-state .ensures) ∙ not-true _ (c .if1 .taken)))
 
 same-length-2 : tie.Need-same-length-2
 same-length-2 c = search needs
@@ -32,7 +33,7 @@ same-length-2 c = search needs
 returns-2 : tie.Need-returns-2
 returns-2 c =
     let a = c .before .before .before .before .before .before .before .before .before .args in
-    unfed (not-roomy 9 (a .state .now) (a .says .now) (passed (c .before)) (c .if2 .taken))
+    unfed byteDecoding decoderNumbers 9 (not-roomy (isState 9 (a .state .now)) (a .says .now) (passed (c .before)) (c .if2 .taken))
 
 decoder-of-requires : tie.Need-decoder-of-requires
 decoder-of-requires c κs = search needs
@@ -65,10 +66,11 @@ returns-3 : tie.Need-returns-3
 returns-3 c =
     let t = c .before .before in
     let k = c .before .before .before .before .before .before .before in
+    let f = c .before .before .before .before .before .before .before .before .before .before .before .before .before .before in
     let e = c .before .before .before .before .before .before .before .before .before .before .before .before .before .before .before .before .before .before .before in
     let a = c .before .before .before .before .before .before .before .before .before .before .before .before .before .before .before .before .before .before .before .before .before .before .before .before .before .before .before .before .args in
-    was-fed (is-ready 9 (a .state .now) (a .says .now) (passed (c .before .before .before .before .before .before .before .before .before .before .before .before .before .before .before .before .before .before .before .before)) (e .if2 .left)) (c .before .before .before .before .before .before .before .before .before .before .before .before .before .before .before .before .before .decoder-of .ensures)
-    (c .before .before .before .before .before .before .before .before .before .before .before .before .before .before .feed .ensures) (state-long 9 (a .state .now) (passed (c .before .before .before .before .before .before .before .before .before .before .before .before .before .before .before .before .before .before .before .before))) (k .keep-decoder .ensures) (c .before .before .before .before .say-written .ensures) (roomed (e .if2 .left) (t .tell .ensures))
+    was-fed byteDecoding decoderNumbers 9 (is-ready (isState 9 (a .state .now)) (a .says .now) (passed (c .before .before .before .before .before .before .before .before .before .before .before .before .before .before .before .before .before .before .before .before)) (e .if2 .left)) (c .before .before .before .before .before .before .before .before .before .before .before .before .before .before .before .before .before .decoder-of .ensures)
+    (f .feed .result .answer) (f .feed .result .state) (f .feed .ensures) (state-long 9 (a .state .now) (passed (c .before .before .before .before .before .before .before .before .before .before .before .before .before .before .before .before .before .before .before .before))) (k .keep-decoder .ensures) (c .before .before .before .before .say-written .ensures) (roomed (e .if2 .left) (t .tell .ensures))
 
 pub bridge-pieces-feed-spec : {M : Type 1} → statement M
 bridge-pieces-feed-spec =

@@ -1,4 +1,6 @@
 -- What start told is told, and its state put.
+use Rattle.decoder.specs.State.{byteDecoding}
+use Rattle.bridge_numbers.specs.States.{decoderNumbers}
 use Rattle.bridge_numbers.proofs.WrapperTells.{roomed}
 use Rattle.bridge_numbers.proofs.CalledWhere.{not-long, not-both, is-writable}
 use Rattle.bridge_texts.proofs.StateHandedOn.{unstarted, started}
@@ -7,12 +9,12 @@ use Rattle.bridge_texts.proofs.pieces.bridge_pieces_start.Statement.{st
 use Rattle.bridge_texts.proofs.pieces.bridge_pieces_start.Tie as tie
 
 returns : tie.Need-returns
-returns c = let a = c .before .before .before .args in unstarted (not-long 9 (a .state .now) (a .says .now) (c .if1 .taken))
+returns c = let a = c .before .before .before .args in unstarted byteDecoding decoderNumbers 9 (not-long 9 (a .state .now) (a .says .now) (c .if1 .taken))
 
 returns-2 : tie.Need-returns-2
 returns-2 c =
     let a = c .before .before .before .before .args in
-    unstarted (not-both 9 (a .state .now) (a .says .now) (c .before .if1 .left) (c .if2 .taken))
+    unstarted byteDecoding decoderNumbers 9 (not-both 9 (a .state .now) (a .says .now) (c .before .if1 .left) (c .if2 .taken))
 
 start-requires : tie.Need-start-requires
 start-requires c κs = search needs
@@ -34,9 +36,10 @@ same-length-2 c = search needs
 
 returns-3 : tie.Need-returns-3
 returns-3 c =
+    let f = c .before .before .before .before .before .before .before .before .before .before in
     let e = c .before .before .before .before .before .before .before .before .before .before .before in
     let a = c .before .before .before .before .before .before .before .before .before .before .before .before .before .before .before .args in
-    started (is-writable 9 (a .state .now) (a .says .now) (e .before .if1 .left) (e .if2 .left)) (c .before .before .before .before .before .before .before .before .before .before .start .ensures)
+    started byteDecoding decoderNumbers 9 (is-writable 9 (a .state .now) (a .says .now) (e .before .if1 .left) (e .if2 .left)) (f .start .result .answer) (f .start .result .state) (f .start .ensures)
     (e .before .if1 .left) (c .before .before .before .before .before .before .before .keep-decoder .ensures) (c .before .before .before .before .say-opening .ensures) (roomed (e .if2 .left) (c .before .before .tell .ensures))
 
 pub bridge-pieces-start-spec : {M : Type 1} → statement M
