@@ -1,10 +1,12 @@
 //! The model itself on the paper's fixed examples.
 mod common;
 
-use common::model::decoder::Decoder;
-use common::model::forms::{check, converted, first, point, segments};
+use common::model::decoder::{most, start, Decoder, State, UnitDecoder};
+use common::model::forms::{check, converted, first, point, segments, Form};
 use common::model::index::{built, lookup, need, Builder};
+use common::model::pending::Piece;
 use common::model::places::{cut, places, plain};
+use common::model::{LIMIT, ROOM};
 use common::{damages, repaired};
 
 #[test]
@@ -58,11 +60,11 @@ fn pieces() {
     let mut state = Decoder::fresh(0);
     let mut written = Vec::new();
     for b in [0xE2, 0x82, 0x41] {
-        let fed = state.feed(&[b], 9, 0);
+        let fed = state.feed::<u8>(&[b], 9, 0);
         written.push(fed.output);
         state = fed.state;
     }
-    let ended = state.finish(0, 0);
+    let ended = state.finish::<u8>(0, 0);
     assert_eq!(
         written,
         [
@@ -72,8 +74,105 @@ fn pieces() {
         ]
     );
     assert_eq!(ended.told, [0, 0, 1, 2, 1]);
-    let five = Decoder::fresh(2).feed(&[0x80; 5], 15, 4);
+    let five = Decoder::fresh(2).feed::<u8>(&[0x80; 5], 15, 4);
     assert_eq!((five.entries, five.state.count), (vec![0, 1, 1, 1], 5));
+}
+
+/// What each piece writes and what the finish then does, the entries, and the totals; with room for four entries.
+fn fed<T: Piece, U: Form>(pieces: &[&[T]]) -> (Vec<Vec<U>>, Vec<u32>, [usize; 3]) {
+    let (mut state, mut written, mut list) = (State::fresh(4), Vec::new(), Vec::new());
+    for piece in pieces {
+        let fed = state.feed(piece, 99, 8);
+        assert_eq!(fed.told, [0, fed.output.len()]);
+        written.push(fed.output);
+        list.extend(fed.entries);
+        state = fed.state;
+        assert!(state.is_sound(), "{state:?}");
+    }
+    let ended = state.finish(99, 8);
+    assert_eq!(ended.state, State::fresh(4));
+    written.push(ended.output);
+    list.extend(ended.entries);
+    let totals = [ended.told[2], ended.told[3], ended.told[4]];
+    (written, list, totals)
+}
+
+#[test]
+fn units_in_pieces() {
+    let (written, list, totals) = fed::<u16, u8>(&[&[0xD83D], &[0xD83D, 0xDE86]]);
+    assert_eq!(written.concat(), "\u{FFFD}\u{1F686}".as_bytes());
+    assert_eq!(written[0], []);
+    assert_eq!((list, totals), (vec![0, 1], [2, 1, 1]));
+
+    let (written, list, totals) = fed::<u16, u8>(&[&[0x20AC, 0xD83D], &[], &[0xDE86, 0xDBFF]]);
+    let expected = ["\u{20AC}", "", "\u{1F686}", "\u{FFFD}"];
+    assert_eq!(written, expected.map(|s| s.as_bytes()));
+    assert_eq!((list, totals), (vec![3, 1], [3, 1, 1]), "starts in units");
+
+    let (written, list, totals) = fed::<u16, u8>(&[&[0xDE86], &[0xD83D], &[0x41]]);
+    let expected = ["\u{FFFD}", "", "\u{FFFD}A", ""];
+    assert_eq!(written, expected.map(|s| s.as_bytes()));
+    assert_eq!((list, totals), (vec![0, 1, 1, 1], [1, 2, 2]));
+}
+
+#[test]
+fn bytes_in_pieces_as_units() {
+    let (written, list, totals) = fed::<u8, u16>(&[b"\xE2", b"\x82", b"\x41"]);
+    assert_eq!(written, [vec![], vec![], vec![0xFFFD, 0x41], vec![]]);
+    assert_eq!((list, totals), (vec![0, 2], [1, 2, 1]), "starts in bytes");
+
+    let (written, list, totals) = fed::<u8, u16>(&[b"\xF0\x9F", b"\x9A\x86\xF0\x9F\x9A"]);
+    assert_eq!(written, [vec![], vec![0xD83D, 0xDE86], vec![0xFFFD]]);
+    assert_eq!((list, totals), (vec![4, 3], [4, 3, 1]));
+}
+
+/// A sound state, the tests for 8 one by one, and then the other refusals in their order.
+#[test]
+fn states_of_units() {
+    let state = UnitDecoder::of(&[0xD83D, 1, 10, 7, 2, 2, 3]);
+    assert!(state.is_sound());
+    assert_eq!(state.numbers(), [0xD83D, 1, 10, 7, 2, 2, 3]);
+    let unsound: [[usize; 7]; 12] = [
+        [0xDC00, 1, 10, 7, 2, 2, 3],
+        [0xD7FF, 1, 10, 7, 2, 2, 3],
+        [0, 1, 10, 7, 2, 2, 3],
+        [0xD83D, 0, 9, 7, 2, 2, 3],
+        [0xD83D, 2, 11, 7, 2, 2, 3],
+        [0xD83D, 1, 9, 7, 2, 2, 3],
+        [0xD83D, 1, 10, 6, 3, 2, 3],
+        [0xD83D, 1, 10, 8, 1, 2, 3],
+        [0xD83D, 1, 10, 7, 2, 2, ROOM + 1],
+        [0xD83D, 1, LIMIT + 1, LIMIT - 2, 2, 2, 3],
+        [0, 0, 2, usize::MAX, 3, 3, 3],
+        [0x41, 0, 9, 7, 2, 2, 3],
+    ];
+    for numbers in unsound {
+        let state = UnitDecoder::of(&numbers);
+        let refused = state.feed::<u8>(&[0x41; 9], 0, 0);
+        assert_eq!(
+            (refused.told, refused.state),
+            (vec![8], state),
+            "{numbers:X?}"
+        );
+        assert_eq!(state.finish::<u8>(9, 9).told, [8], "{numbers:X?}");
+    }
+    let full = UnitDecoder::of(&[0, 0, LIMIT - 1, LIMIT - 1, 0, 0, 3]);
+    assert_eq!(full.feed::<u8>(&[0x41, 0x41], 0, 0).told, [2]);
+    assert_eq!(full.feed::<u8>(&[0x41], 0, 5).told, [7]);
+    assert_eq!(full.feed::<u8>(&[0x41], 0, 6).told, [3, 1]);
+    assert_eq!(full.feed::<u8>(&[0x41], 1, 6).told, [0, 1]);
+    assert_eq!(state.finish::<u8>(2, 6).told, [3, 3]);
+    assert_eq!(state.finish::<u8>(3, 6).told, [0, 3, 7, 3, 3]);
+    assert_eq!(start(ROOM + 1), (vec![7], UnitDecoder::fresh(0)));
+    assert_eq!(start(ROOM), (vec![0], UnitDecoder::fresh(ROOM)));
+}
+
+#[test]
+fn the_most_places() {
+    assert_eq!([most::<u8>(0), most::<u8>(5)], [3, 18]);
+    assert_eq!([most::<u16>(0), most::<u16>(5)], [1, 6]);
+    assert_eq!(most::<u8>(usize::MAX), 3 * (LIMIT + 1));
+    assert_eq!(most::<u16>(LIMIT + 1), LIMIT + 1);
 }
 
 #[test]

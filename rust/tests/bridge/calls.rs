@@ -1,6 +1,8 @@
 //! The wrappers of the crate `bridge_texts` as safe calls, with guards around every lent buffer.
-use crate::common::model::decoder::Decoder;
+use crate::common::model::decoder::{Decoder, State};
+use crate::common::model::forms::Form;
 use crate::common::model::index::Builder;
+use crate::common::model::pending::Piece;
 use crate::common::model::places::Place;
 use crate::common::model::Told;
 
@@ -30,6 +32,32 @@ pub type Goes = unsafe extern "C" fn(
 ) -> usize;
 /// Cuts a text.
 pub type Cuts = unsafe extern "C" fn(*const u8, usize, usize) -> usize;
+/// Starts a text that comes in pieces, by the room of its list: puts the state and tells.
+pub type Starts = unsafe extern "C" fn(usize, *mut usize, usize, *mut usize, usize) -> usize;
+/// Takes a piece behind a state: writes an output and entries of a list, puts the next state and tells.
+pub type Feeds<T, U> = unsafe extern "C" fn(
+    *mut usize,
+    usize,
+    *const T,
+    usize,
+    *mut U,
+    usize,
+    *mut u32,
+    usize,
+    *mut usize,
+    usize,
+) -> usize;
+/// Ends a text as a piece is taken.
+pub type Ends<U> = unsafe extern "C" fn(
+    *mut usize,
+    usize,
+    *mut U,
+    usize,
+    *mut u32,
+    usize,
+    *mut usize,
+    usize,
+) -> usize;
 
 // Nothing compares these declarations with the Rattle source but the tests: a slice passes as a pointer and a length.
 #[rustfmt::skip]
@@ -59,6 +87,8 @@ extern "C" {
 
     fn bridge_most(from: usize, to: usize, n: usize) -> usize;
     fn bridge_pieces_most(n: usize) -> usize;
+    fn bridge_unit_pieces_most(n: usize) -> usize;
+    fn bridge_pieces_to_units_most(n: usize) -> usize;
     fn bridge_index_needed(long: usize) -> usize;
 
     pub fn bridge_places_cut_bytes(text: *const u8, n: usize, most: usize) -> usize;
@@ -80,6 +110,12 @@ extern "C" {
     fn bridge_pieces_feed(state: *mut usize, k: usize, piece: *const u8, n: usize, out: *mut u8, o: usize, list: *mut u32, l: usize, says: *mut usize, m: usize) -> usize;
     fn bridge_pieces_finish(state: *mut usize, k: usize, out: *mut u8, o: usize, list: *mut u32, l: usize, says: *mut usize, m: usize) -> usize;
     fn bridge_pieces_step(state: *mut usize, k: usize, b: u8) -> usize;
+    fn bridge_unit_pieces_start(room: usize, state: *mut usize, k: usize, says: *mut usize, m: usize) -> usize;
+    fn bridge_unit_pieces_feed(state: *mut usize, k: usize, piece: *const u16, n: usize, out: *mut u8, o: usize, list: *mut u32, l: usize, says: *mut usize, m: usize) -> usize;
+    fn bridge_unit_pieces_finish(state: *mut usize, k: usize, out: *mut u8, o: usize, list: *mut u32, l: usize, says: *mut usize, m: usize) -> usize;
+    fn bridge_pieces_to_units_start(room: usize, state: *mut usize, k: usize, says: *mut usize, m: usize) -> usize;
+    fn bridge_pieces_to_units_feed(state: *mut usize, k: usize, piece: *const u8, n: usize, out: *mut u16, o: usize, list: *mut u32, l: usize, says: *mut usize, m: usize) -> usize;
+    fn bridge_pieces_to_units_finish(state: *mut usize, k: usize, out: *mut u16, o: usize, list: *mut u32, l: usize, says: *mut usize, m: usize) -> usize;
     fn bridge_index_fresh(state: *mut usize, k: usize) -> usize;
     fn bridge_index_feed(state: *mut usize, k: usize, piece: *const u8, n: usize, row: *mut u32, r: usize, says: *mut usize, m: usize) -> usize;
     fn bridge_index_finish(state: *mut usize, k: usize, row: *mut u32, r: usize, says: *mut usize, m: usize) -> usize;
@@ -103,17 +139,62 @@ pub const INDEXED: [Finds; 4] = [
     bridge_index_at_point,
     bridge_index_at_line,
 ];
-pub const CUT: [Cuts; 3] = [bridge_places_cut_bytes, bridge_places_cut_units, bridge_places_cut_points];
+pub const CUT: [Cuts; 3] = [
+    bridge_places_cut_bytes,
+    bridge_places_cut_units,
+    bridge_places_cut_points,
+];
+
+/// The calls of a decoder, by what it takes and what it writes.
+#[derive(Clone, Copy)]
+pub struct Decoding<T, U> {
+    pub name: &'static str,
+    start: Starts,
+    feed: Feeds<T, U>,
+    finish: Ends<U>,
+    most: unsafe extern "C" fn(usize) -> usize,
+}
+
+/// Bytes in pieces, repaired.
+pub const PIECES: Decoding<u8, u8> = Decoding {
+    name: "pieces",
+    start: bridge_pieces_start,
+    feed: bridge_pieces_feed,
+    finish: bridge_pieces_finish,
+    most: bridge_pieces_most,
+};
+/// Units in pieces, written as bytes.
+pub const UNIT_PIECES: Decoding<u16, u8> = Decoding {
+    name: "unit_pieces",
+    start: bridge_unit_pieces_start,
+    feed: bridge_unit_pieces_feed,
+    finish: bridge_unit_pieces_finish,
+    most: bridge_unit_pieces_most,
+};
+/// Bytes in pieces, written as units.
+pub const PIECES_TO_UNITS: Decoding<u8, u16> = Decoding {
+    name: "pieces_to_units",
+    start: bridge_pieces_to_units_start,
+    feed: bridge_pieces_to_units_feed,
+    finish: bridge_pieces_to_units_finish,
+    most: bridge_pieces_to_units_most,
+};
 
 /// Places before and behind each lent part.
 pub const MARGIN: usize = 8;
 const GUARD: usize = 0xA5A5_5A5A_0F0F_F0F0;
 
-/// A buffer to lend n places of, with margins, filled with numbers that differ from place to place.
-pub fn filled<T: From<u8>>(n: usize) -> Vec<T> {
-    (0..n + 2 * MARGIN)
+/// A buffer to lend n places of, with margins, filled with numbers that differ from place to place, and again from 256 places on.
+pub fn filled<T: Copy + From<u8>>(n: usize) -> Vec<T> {
+    let all = n + 2 * MARGIN;
+    let mut buffer: Vec<T> = (0..all.min(256))
         .map(|i| T::from((i * 167 + 13) as u8))
-        .collect()
+        .collect();
+    while buffer.len() < all {
+        let more = buffer.len().min(all - buffer.len());
+        buffer.extend_from_within(..more);
+    }
+    buffer
 }
 
 /// The lent part.
@@ -201,10 +282,6 @@ pub fn most(from: usize, to: usize, n: usize) -> usize {
     unsafe { bridge_most(from, to, n) }
 }
 
-pub fn repair_most(n: usize) -> usize {
-    unsafe { bridge_pieces_most(n) }
-}
-
 pub fn index_needed(long: usize) -> usize {
     unsafe { bridge_index_needed(long) }
 }
@@ -218,21 +295,15 @@ pub fn audit(text: &[u8], row: &[u32]) -> usize {
 }
 
 /// Lends a state in a longer row, and reads it back; the places around it may not change.
-fn with_state<const N: usize>(
-    state: [usize; N],
-    call: impl FnOnce(*mut usize) -> Told,
-) -> (Told, [usize; N]) {
-    let mut row = [GUARD; 32];
-    row[MARGIN..MARGIN + N].copy_from_slice(&state);
+fn with_state(state: &[usize], call: impl FnOnce(*mut usize) -> Told) -> (Told, Vec<usize>) {
+    let (mut row, end) = ([GUARD; 32], MARGIN + state.len());
+    row[MARGIN..end].copy_from_slice(state);
     let told = call(row[MARGIN..].as_mut_ptr());
     assert!(
-        row[..MARGIN]
-            .iter()
-            .chain(&row[MARGIN + N..])
-            .all(|&n| n == GUARD),
+        row[..MARGIN].iter().chain(&row[end..]).all(|&n| n == GUARD),
         "a place beside the state is changed"
     );
-    (told, row[MARGIN..MARGIN + N].try_into().unwrap())
+    (told, row[MARGIN..end].to_vec())
 }
 
 /// The lengths that a state is lent with: its own, and more.
@@ -240,64 +311,104 @@ fn spare(n: usize) -> usize {
     n + 5
 }
 
-pub fn repair_start(room: usize, before: [usize; 9]) -> (Told, Decoder) {
-    let (t, n) = with_state(before, |p| {
-        told(|s, m| unsafe { bridge_pieces_start(room, p, spare(9), s, m) })
-    });
-    (t, Decoder::of(n))
-}
+impl<T: Piece, U: Form> Decoding<T, U> {
+    /// How many numbers a state is.
+    const NUMBERS: usize = T::PENDING + 6;
 
-pub fn repair_feed(
-    state: Decoder,
-    piece: &[u8],
-    out: &mut [u8],
-    list: &mut [u32],
-) -> (Told, Decoder) {
-    let (o, k, l, j) = (out.as_mut_ptr(), out.len(), list.as_mut_ptr(), list.len());
-    let (t, n) = with_state(state.numbers(), |p| {
-        told(|s, m| unsafe {
-            bridge_pieces_feed(p, 9, piece.as_ptr(), piece.len(), o, k, l, j, s, m)
-        })
-    });
-    (t, Decoder::of(n))
-}
+    /// Starts a text, where each number of the state was some other before.
+    pub fn start(&self, room: usize, before: usize) -> (Told, State<T>) {
+        let (t, n) = with_state(&vec![before; Self::NUMBERS], |p| {
+            told(|s, m| unsafe { (self.start)(room, p, spare(Self::NUMBERS), s, m) })
+        });
+        (t, State::of(&n))
+    }
 
-pub fn repair_finish(state: Decoder, out: &mut [u8], list: &mut [u32]) -> (Told, Decoder) {
-    let (o, k, l, j) = (out.as_mut_ptr(), out.len(), list.as_mut_ptr(), list.len());
-    let (t, n) = with_state(state.numbers(), |p| {
-        told(|s, m| unsafe { bridge_pieces_finish(p, spare(9), o, k, l, j, s, m) })
-    });
-    (t, Decoder::of(n))
+    pub fn feed(
+        &self,
+        state: State<T>,
+        piece: &[T],
+        out: &mut [U],
+        list: &mut [u32],
+    ) -> (Told, State<T>) {
+        let (o, k, l, j) = (out.as_mut_ptr(), out.len(), list.as_mut_ptr(), list.len());
+        let (p, n) = (piece.as_ptr(), piece.len());
+        let (t, n) = with_state(&state.numbers(), |d| {
+            told(|s, m| unsafe { (self.feed)(d, Self::NUMBERS, p, n, o, k, l, j, s, m) })
+        });
+        (t, State::of(&n))
+    }
+
+    pub fn finish(&self, state: State<T>, out: &mut [U], list: &mut [u32]) -> (Told, State<T>) {
+        let (o, k, l, j) = (out.as_mut_ptr(), out.len(), list.as_mut_ptr(), list.len());
+        let (t, n) = with_state(&state.numbers(), |d| {
+            told(|s, m| unsafe { (self.finish)(d, spare(Self::NUMBERS), o, k, l, j, s, m) })
+        });
+        (t, State::of(&n))
+    }
+
+    /// The most places that a feed of so many elements can need.
+    pub fn most(&self, n: usize) -> usize {
+        unsafe { (self.most)(n) }
+    }
+
+    /// Calls with a slice that is too short to be a state, or with too few places to tell in: what each replies. Nothing may change.
+    fn too_short(&self) -> Vec<usize> {
+        let (mut state, mut says) = ([0usize; 9], [GUARD; 8]);
+        let (mut out, mut list) = ([U::from(7); 16], [7u32; 16]);
+        let (p, s, n) = (state.as_mut_ptr(), says.as_mut_ptr(), Self::NUMBERS);
+        let (o, l) = (out.as_mut_ptr(), list.as_mut_ptr());
+        let (text, none) = ([T::from(0x41); 4], std::ptr::NonNull::dangling().as_ptr());
+        let t = text.as_ptr();
+        let replies = unsafe {
+            vec![
+                (self.start)(2, p, n - 1, s, 8),
+                (self.start)(2, none, 0, s, 8),
+                (self.start)(2, p, n, s, 7),
+                (self.feed)(p, n - 1, t, 4, o, 16, l, 16, s, 8),
+                (self.feed)(none, 0, t, 4, o, 16, l, 16, s, 8),
+                (self.feed)(p, n, t, 4, o, 16, l, 16, s, 7),
+                (self.finish)(p, n - 1, o, 16, l, 16, s, 8),
+                (self.finish)(none, 0, o, 16, l, 16, s, 8),
+                (self.finish)(p, n, o, 16, l, 16, s, 0),
+            ]
+        };
+        assert!(
+            (state, says) == ([0; 9], [GUARD; 8]) && (out, list) == ([U::from(7); 16], [7; 16]),
+            "{}: changed where not called",
+            self.name
+        );
+        replies
+    }
 }
 
 pub fn watch_step(state: Decoder, b: u8) -> (usize, Decoder) {
-    let (t, n) = with_state(state.numbers(), |p| {
+    let (t, n) = with_state(&state.numbers(), |p| {
         vec![unsafe { bridge_pieces_step(p, 9, b) }]
     });
-    (t[0], Decoder::of(n))
+    (t[0], Decoder::of(&n))
 }
 
 pub fn build_fresh(before: [usize; 8]) -> (usize, Builder) {
-    let (t, n) = with_state(before, |p| {
+    let (t, n) = with_state(&before, |p| {
         vec![unsafe { bridge_index_fresh(p, spare(8)) }]
     });
-    (t[0], Builder::of(n))
+    (t[0], Builder::of(&n))
 }
 
 pub fn build_feed(state: Builder, piece: &[u8], row: &mut [u32]) -> (Told, Builder) {
     let (r, k) = (row.as_mut_ptr(), row.len());
-    let (t, n) = with_state(state.numbers(), |p| {
+    let (t, n) = with_state(&state.numbers(), |p| {
         told(|s, m| unsafe { bridge_index_feed(p, 8, piece.as_ptr(), piece.len(), r, k, s, m) })
     });
-    (t, Builder::of(n))
+    (t, Builder::of(&n))
 }
 
 pub fn build_finish(state: Builder, row: &mut [u32]) -> (Told, Builder) {
     let (r, k) = (row.as_mut_ptr(), row.len());
-    let (t, n) = with_state(state.numbers(), |p| {
+    let (t, n) = with_state(&state.numbers(), |p| {
         told(|s, m| unsafe { bridge_index_finish(p, spare(8), r, k, s, m) })
     });
-    (t, Builder::of(n))
+    (t, Builder::of(&n))
 }
 
 pub fn is_tail(held: &[usize], n: usize) -> usize {
@@ -330,23 +441,12 @@ pub fn settled_size(kind: usize, n: usize) -> usize {
 pub fn too_short() -> Vec<usize> {
     let mut state = [0usize; 9];
     let (p, mut says) = (state.as_mut_ptr(), [GUARD; 8]);
-    let (s, text, none) = (
-        says.as_mut_ptr(),
-        [0x41u8; 4],
-        std::ptr::NonNull::dangling().as_ptr(),
-    );
-    let (mut out, mut row) = ([7u8; 16], [7u32; 16]);
-    let (t, o, r) = (text.as_ptr(), out.as_mut_ptr(), row.as_mut_ptr());
+    let (s, text) = (says.as_mut_ptr(), [0x41u8; 4]);
+    let mut row = [7u32; 16];
+    let (t, r) = (text.as_ptr(), row.as_mut_ptr());
     let from = [0usize; 4];
-    let replies = unsafe {
+    let mut replies = unsafe {
         vec![
-            bridge_pieces_start(2, p, 8, s, 8),
-            bridge_pieces_start(2, none, 0, s, 8),
-            bridge_pieces_start(2, p, 9, s, 7),
-            bridge_pieces_feed(p, 8, t, 4, o, 16, r, 16, s, 8),
-            bridge_pieces_feed(p, 9, t, 4, o, 16, r, 16, s, 7),
-            bridge_pieces_finish(p, 8, o, 16, r, 16, s, 8),
-            bridge_pieces_finish(p, 9, o, 16, r, 16, s, 0),
             bridge_pieces_step(p, 8, 0x41),
             bridge_index_fresh(p, 7),
             bridge_index_feed(p, 7, t, 4, r, 16, s, 8),
@@ -364,10 +464,12 @@ pub fn too_short() -> Vec<usize> {
         ]
     };
     assert_eq!(
-        (state, says),
-        ([0; 9], [GUARD; 8]),
+        (state, says, row),
+        ([0; 9], [GUARD; 8], [7; 16]),
         "changed where not called"
     );
-    assert_eq!((out, row), ([7; 16], [7; 16]), "changed where not called");
+    replies.extend(PIECES.too_short());
+    replies.extend(UNIT_PIECES.too_short());
+    replies.extend(PIECES_TO_UNITS.too_short());
     replies
 }

@@ -43,7 +43,7 @@ fn reading<T: Form + Debug>(run: &mut Run, text: &[T], calls: [Reads<T>; 3]) {
 /// Where there are too few places to tell in, nothing is called.
 fn untold<T, U>(run: &mut Run, call: Writes<T, U>, text: &[T])
 where
-    U: Clone + PartialEq + From<u8>,
+    U: Copy + PartialEq + From<u8>,
 {
     let mut out = filled::<U>(2 * text.len());
     let expected = out.clone();
@@ -98,11 +98,7 @@ pub fn of_units(run: &mut Run, text: &[u16]) {
     reading(
         run,
         text,
-        [
-            bridge_units_segment,
-            bridge_units_point,
-            bridge_units_check,
-        ],
+        [bridge_units_segment, bridge_units_point, bridge_units_check],
     );
     writing(run, bridge_units_to_bytes, text, &forms::strict(text));
     writing(run, bridge_units_to_points, text, &forms::strict(text));

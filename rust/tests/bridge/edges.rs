@@ -1,8 +1,11 @@
 //! Texts around the edges of blocks and runs: lengths and damage at 0 to 4 from multiples of 128, damage at every place of some texts, for
 //! smaller blocks, and in pieces cuts at 0 to 4 from the edges of both.
+use crate::calls::{Decoding, PIECES, PIECES_TO_UNITS, UNIT_PIECES};
+use crate::common::model::forms::Form;
 use crate::common::Random;
 use crate::conversions;
-use crate::pieces::{build_course, repair_course, Course};
+use crate::courses::{decode_course, Course, Tested};
+use crate::pieces::build_course;
 use crate::Run;
 
 const BLOCK: usize = 128;
@@ -38,8 +41,9 @@ fn bytes(run: &mut Run, text: &[u8], turn: usize) {
     let c = (turn % 5).min(text.len());
     let cuts = [c, text.len()];
     let room = turn % 3;
-    repair_course(
+    decode_course(
         run,
+        PIECES,
         &Course {
             text,
             cuts: &cuts,
@@ -71,13 +75,17 @@ fn damaged(run: &mut Run, clean: &[u8], places: &[usize]) {
     }
 }
 
+/// So many units of one alphabet; the last may be a first half.
+fn exact_units(random: &mut Random, alphabet: usize, length: usize) -> Vec<u16> {
+    let text: String = (0..length).map(|_| random.character(alphabet)).collect();
+    let mut units: Vec<u16> = text.encode_utf16().collect();
+    units.truncate(length);
+    units
+}
+
 fn units(run: &mut Run, length: usize, places: &[usize]) {
     for alphabet in [0, 2, 4] {
-        let text: String = (0..length)
-            .map(|_| run.random.character(alphabet))
-            .collect();
-        let mut clean: Vec<u16> = text.encode_utf16().collect();
-        clean.truncate(length);
+        let clean = exact_units(&mut run.random, alphabet, length);
         conversions::of_units(run, &clean);
         for &at in places.iter().filter(|&&at| at < length) {
             let mut text = clean.clone();
@@ -145,9 +153,89 @@ pub fn in_pieces(run: &mut Run) {
                 let (cuts, room) = ([cut, again, text.len()], cut % 4);
                 let text = &text;
                 let cuts = &cuts;
-                repair_course(run, &Course { text, cuts, room });
+                decode_course(run, PIECES, &Course { text, cuts, room });
+                decode_course(run, PIECES_TO_UNITS, &Course { text, cuts, room });
                 build_course(run, &Course { text, cuts, room });
             }
         }
+    }
+}
+
+/// Halves alone, in wrong order and before a pair, a pair, and a unit that stands alone.
+const HALVES: [&[u16]; 6] = [
+    &[0xD83D],
+    &[0xDE86],
+    &[0xDE86, 0xD83D],
+    &[0xD83D, 0xD83D, 0xDE86],
+    &[0xDBFF, 0xDFFF],
+    &[0x20AC],
+];
+
+/// Elements put over a text at a place, and at times again about a block further on; then the text in pieces: the first of up to four
+/// elements, the rest at once, or cut where the elements stand.
+fn put_over<T, U>(run: &mut Run, decoding: Decoding<T, U>, clean: &[T], put: &[T], at: usize)
+where
+    T: Tested,
+    U: Form,
+{
+    let (n, size) = (clean.len(), put.len());
+    if at + size > n {
+        return;
+    }
+    let mut text = clean.to_vec();
+    let again = at + run.random.pick(&[16, 32, 64, BLOCK]) - 4 + run.random.below(9);
+    let places = [at, if again + size <= n { again } else { at }];
+    for &at in &places[..1 + run.random.below(2)] {
+        text[at..at + size].copy_from_slice(put);
+    }
+    let (text, room, first) = (&text[..], at % 3, ((at + size) % 5).min(n));
+    let cut = (at + run.random.below(size + 1)).max(first);
+    for cuts in [&[first, n][..], &[first, cut, n]] {
+        decode_course(run, decoding, &Course { text, cuts, room });
+    }
+}
+
+/// Each of some puts, over clean texts: at the end of those with lengths near the edges, near each edge of a long one, and for smaller
+/// blocks at every place of a short one.
+fn at_edges<T, U>(
+    run: &mut Run,
+    decoding: Decoding<T, U>,
+    clean: impl Fn(&mut Random, usize) -> Vec<T>,
+    puts: &[&[T]],
+) where
+    T: Tested,
+    U: Form,
+{
+    let long = clean(&mut run.random, 4 * BLOCK + 9);
+    let short = clean(&mut run.random, 72);
+    for put in puts {
+        for length in near_edges(3) {
+            let text = clean(&mut run.random, length);
+            let last = length.saturating_sub(put.len());
+            put_over(run, decoding, &text, put, last);
+        }
+        for at in near_edges(4) {
+            put_over(run, decoding, &long, put, at);
+        }
+        for at in 0..short.len() {
+            put_over(run, decoding, &short, put, at);
+        }
+    }
+}
+
+/// Long pieces of units.
+pub fn unit_pieces(run: &mut Run) {
+    for round in 0..run.rounds(6) {
+        let clean = |random: &mut Random, n| exact_units(random, round % 6, n);
+        at_edges(run, UNIT_PIECES, clean, &HALVES);
+    }
+}
+
+/// Long pieces of bytes, written as units.
+pub fn pieces_to_units(run: &mut Run) {
+    let puts = [&DAMAGE[..], &WHOLE[..]].concat();
+    for round in 0..run.rounds(6) {
+        let clean = |random: &mut Random, n| exact(random, round % 6, n);
+        at_edges(run, PIECES_TO_UNITS, clean, &puts);
     }
 }

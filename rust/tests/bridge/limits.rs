@@ -1,10 +1,12 @@
 //! The limits: texts of 16,777,216 elements and one more for every call, and the room of a list.
 use crate::calls::{self, *};
-use crate::common::model::decoder::{start, Decoder};
+use crate::common::model::decoder::{start, State};
+use crate::common::model::forms::Form;
 use crate::common::model::index::{lookup, need, Builder};
+use crate::common::model::pending::{hold, Piece};
 use crate::common::model::places::LINES;
 use crate::common::model::{LIMIT, ROOM};
-use crate::pieces::Tried;
+use crate::courses::Tried;
 use crate::Run;
 use std::fmt::Debug;
 
@@ -26,8 +28,7 @@ where
     assert_eq!(writes(call, &text[..LIMIT], short, 8), [3, need]);
     assert!(kept(&out, 0), "a refusal changed the output");
     assert_eq!(writes(call, &text[..LIMIT], inner(&mut out), 8), [0, need]);
-    let (body, n) = (inner(&mut out), written.len());
-    assert!(body.chunks(n).all(|part| part == written));
+    assert!(inner(&mut out) == written.repeat(LIMIT));
     assert!(
         kept(&out, need),
         "a place behind the written part is changed"
@@ -64,30 +65,26 @@ pub fn conversions(run: &mut Run) {
 }
 
 /// The room of a list at the start.
-fn rooms(run: &mut Run) {
+fn rooms<T: Piece, U: Form>(run: &mut Run, decoding: Decoding<T, U>) {
     for room in [0, 1, ROOM - 1, ROOM, ROOM + 1, LIMIT, usize::MAX] {
-        assert_eq!(repair_start(room, [5; 9]), start(room), "room {room}");
+        assert_eq!(decoding.start(room, 5), start(room), "room {room}");
         run.cases += 1;
     }
 }
 
-/// States within some bytes of the limit, whole but for what is pending.
-fn near(run: &mut Run, back: usize, pending: usize) {
-    let held = [[0; 3], [0xE2, 0, 0], [0xE2, 0x82, 0], [0xF0, 0x9F, 0x9A]][pending];
-    let taken = LIMIT - back;
-    let state = Decoder {
-        held,
-        pending,
-        taken,
-        whole: taken - pending,
-        ..Decoder::fresh(1)
-    };
-    for n in 0..6 {
-        let piece = &b"\x82\xAC\x41\x80\x41\x41"[..n];
-        for (out, list) in [(20, 2), (0, 2), (20, 1)] {
+/// A state within some elements of the limit, whole but for what is pending, and beginnings of a piece: some reach the limit, some go past.
+fn near<T, U>(run: &mut Run, decoding: Decoding<T, U>, state: State<T>, piece: &[T])
+where
+    T: Piece,
+    U: Form,
+{
+    let pieces = (0..=piece.len()).map(|n| Some(&piece[..n])).chain([None]);
+    for piece in pieces {
+        for (out, list) in [(20, 2), (0, 2), (20, 1), (0, 1)] {
             let tried = Tried {
+                decoding,
                 state,
-                piece: Some(piece),
+                piece,
                 out,
                 list,
             };
@@ -95,45 +92,83 @@ fn near(run: &mut Run, back: usize, pending: usize) {
             run.cases += 1;
         }
     }
-    assert_eq!(calls::watch_step(state, 0x41), state.watch(0x41));
-    let tried = Tried {
-        state,
-        piece: None,
-        out: 3,
-        list: 2,
-    };
-    tried.compare(&mut filled(2), || format!("finish of {state:?}"));
-    run.cases += 2;
 }
 
-/// One feed of a whole text at the limit.
-fn long_feed(run: &mut Run) {
-    let text = vec![b'A'; LIMIT + 1];
-    let (mut out, mut list) = (filled::<u8>(LIMIT), filled::<u32>(0));
-    let state = Decoder::fresh(0);
-    let refused = repair_feed(state, &text, inner(&mut out), inner(&mut list));
+/// One feed of a whole text at the limit, where each element is written as some; hands back the state.
+fn long_feed<T, U>(run: &mut Run, decoding: Decoding<T, U>, element: T, written: &[U]) -> State<T>
+where
+    T: Piece,
+    U: Form,
+{
+    let text = vec![element; LIMIT + 1];
+    let need = LIMIT * written.len();
+    let (mut out, mut list) = (filled::<U>(need), filled::<u32>(0));
+    let state = State::fresh(0);
+    let refused = decoding.feed(state, &text, inner(&mut out), inner(&mut list));
     assert_eq!(refused, (vec![2], state));
-    assert!(out == filled::<u8>(LIMIT));
-    let (told, after) = repair_feed(state, &text[..LIMIT], inner(&mut out), inner(&mut list));
-    let whole = Decoder {
+    let (whole, short) = (&text[..LIMIT], &mut inner(&mut out)[..need - 1]);
+    let refused = decoding.feed(state, whole, short, inner(&mut list));
+    assert_eq!(refused, (vec![3, need], state));
+    assert!(out == filled::<U>(need), "a refusal changed the output");
+    let (told, after) = decoding.feed(state, whole, inner(&mut out), inner(&mut list));
+    let all = State {
         taken: LIMIT,
         whole: LIMIT,
         ..state
     };
-    assert_eq!((told, after), (vec![0, LIMIT], whole));
-    assert!(inner(&mut out) == &text[..LIMIT] && list == filled::<u32>(0));
-    assert_eq!(calls::watch_step(after, 0x41), (4_294_967_295, after));
-    let finished = repair_finish(after, &mut [], &mut []);
+    assert_eq!((told, after), (vec![0, need], all));
+    let mut expected = filled::<U>(need);
+    inner(&mut expected).copy_from_slice(&written.repeat(LIMIT));
+    assert!(out == expected && list == filled::<u32>(0));
+    let refused = decoding.feed(after, &text[..1], &mut [], &mut []);
+    assert_eq!(refused, (vec![2], after));
+    let finished = decoding.finish(after, &mut [], &mut []);
     assert_eq!(finished, (vec![0, 0, LIMIT, 0, 0], state));
-    run.cases += 4;
+    run.cases += 5;
+    after
+}
+
+/// The limits of a decoder, with a piece, for states of what may be pending; hands back these states.
+fn in_pieces<T, U>(
+    run: &mut Run,
+    decoding: Decoding<T, U>,
+    tails: &[&[T]],
+    piece: &[T],
+) -> Vec<State<T>>
+where
+    T: Piece,
+    U: Form,
+{
+    rooms(run, decoding);
+    let states = (0..piece.len()).flat_map(|back| {
+        tails.iter().map(move |left| State {
+            held: hold(left),
+            pending: left.len(),
+            taken: LIMIT - back,
+            whole: LIMIT - back - left.len(),
+            ..State::fresh(1)
+        })
+    });
+    states
+        .inspect(|&state| near(run, decoding, state, piece))
+        .collect()
 }
 
 pub fn pieces(run: &mut Run) {
-    rooms(run);
-    for back in 0..6 {
-        (0..4).for_each(|pending| near(run, back, pending));
+    let tails: [&[u8]; 4] = [b"", b"\xE2", b"\xE2\x82", b"\xF0\x9F\x9A"];
+    let piece = b"\x82\xAC\x41\x80\x41\xC3";
+    for state in in_pieces(run, PIECES, &tails, piece) {
+        assert_eq!(calls::watch_step(state, 0x41), state.watch(0x41));
+        run.cases += 1;
     }
-    long_feed(run);
+    in_pieces(run, PIECES_TO_UNITS, &tails, piece);
+    let units = [0xDE86, 0x41, 0xDC00, 0xD83D, 0x41, 0xDBFF];
+    in_pieces(run, UNIT_PIECES, &[&[], &[0xD83D], &[0xDBFF]], &units);
+    let full = long_feed(run, PIECES, b'A', b"A");
+    assert_eq!(calls::watch_step(full, 0x41), (4_294_967_295, full));
+    long_feed(run, PIECES_TO_UNITS, b'A', &[0x41]);
+    long_feed(run, UNIT_PIECES, 0x41, b"A");
+    long_feed(run, UNIT_PIECES, 0x4E00, b"\xE4\xB8\x80");
 }
 
 /// The index of a text of so many letters.

@@ -5,7 +5,9 @@ mod calls;
 #[path = "../common/mod.rs"]
 mod common;
 mod conversions;
+mod courses;
 mod cutting;
+mod cuttings;
 mod edges;
 mod limits;
 mod lookups;
@@ -40,7 +42,7 @@ const USUAL: usize = 1_000_000;
 type Subject = (&'static str, fn(&mut Run));
 
 /// The subjects, the longest first, so that the last to end are short.
-const SUBJECTS: [Subject; 18] = [
+const SUBJECTS: [Subject; 26] = [
     ("limits of lookups and the builder", limits::lookups),
     ("limits of conversions", limits::conversions),
     ("limits of pieces", limits::pieces),
@@ -48,10 +50,18 @@ const SUBJECTS: [Subject; 18] = [
     ("lookups at every offset", lookups::every_offset),
     ("lookups in long texts", lookups::long_texts),
     ("repair in pieces", pieces::repair),
+    ("units in pieces", pieces::units),
+    ("bytes in pieces, as units", pieces::to_units),
+    ("every cutting of units", cuttings::of_units),
+    ("every cutting of bytes, as units", cuttings::to_units),
     ("the builder in pieces", pieces::build),
     ("block edges", edges::all),
     ("runs and cuts near their edges", edges::in_pieces),
+    ("block edges of units in pieces", edges::unit_pieces),
+    ("block edges of bytes, as units", edges::pieces_to_units),
     ("states of a decoder", states::decoders),
+    ("states of a decoder of units", states::unit_decoders),
+    ("states of a decoder to units", states::decoders_to_units),
     ("states of a builder", states::builders),
     ("the watch over a lent state", watch::all),
     ("conversions of random texts", conversions::random),

@@ -1,6 +1,6 @@
 //! The functions of pending bytes, and slices that are too short to call anything with.
 use crate::calls::{self, NOT_CALLED};
-use crate::common::model::decoder;
+use crate::common::model::pending;
 use crate::common::INTERESTING;
 use crate::Run;
 
@@ -38,10 +38,10 @@ fn compare(run: &mut Run) {
     if are_bytes {
         assert_eq!(
             tail,
-            decoder::is_tail(held, n) as usize,
+            pending::is_tail::<u8>(held, n) as usize,
             "{n} of {held:02X?}"
         );
-        let mut joined = decoder::bytes(&held[..n.min(3)]);
+        let mut joined = pending::elements::<u8>(&held[..n.min(3)]);
         joined.extend(&piece);
         joined.truncate(4);
         let byte = |i| joined.get(i).map_or(0, |&b| b as usize);
@@ -50,7 +50,7 @@ fn compare(run: &mut Run) {
     } else {
         assert_eq!((tail, seam), (NOT_CALLED, vec![NOT_CALLED]), "{held:02X?}");
     }
-    assert_eq!(calls::hold(&piece), decoder::hold(&piece), "{piece:02X?}");
+    assert_eq!(calls::hold(&piece), pending::hold(&piece), "{piece:02X?}");
     run.cases += 3;
 }
 

@@ -1,144 +1,65 @@
-//! Repair and the index builder, fed in random cuttings: every call's answer, state and buffers, then the whole.
-use crate::calls::{self, filled, inner, MARGIN};
-use crate::common::model::decoder::{start, Decoder, Fed};
+//! The decoders and the index builder, fed in random cuttings, and the decoders on examples.
+use crate::calls::{self, filled, Decoding, MARGIN, PIECES, PIECES_TO_UNITS, UNIT_PIECES};
+use crate::common::model::decoder::{Decoder, State};
+use crate::common::model::forms::Form;
 use crate::common::model::index::{built, need, Builder};
-use crate::common::{damages, repaired};
+use crate::courses::{decode_course, Course, Tested};
 use crate::Run;
 
-/// A text with the places that it is cut at, and what else is needed to repeat a failure.
-#[derive(Debug)]
-pub struct Course<'a> {
-    pub text: &'a [u8],
-    pub cuts: &'a [usize],
-    pub room: usize,
-}
-
-impl<'a> Course<'a> {
-    /// The pieces, the last one up to the text's end.
-    fn pieces(&self) -> impl Iterator<Item = &'a [u8]> + '_ {
-        let text = self.text;
-        let starts = std::iter::once(0).chain(self.cuts.iter().copied());
-        starts
-            .zip(self.cuts)
-            .map(move |(from, &to)| &text[from..to])
-    }
-
-    fn at(&self, place: impl std::fmt::Debug) -> String {
-        let (text, cuts, room) = (self.text, self.cuts, self.room);
-        format!("{place:?}: text {text:02X?} cut at {cuts:?}, room {room}")
-    }
-}
-
-/// One call of the decoder: its answer, state, output with margins, and the whole list.
-pub struct Tried<'a> {
-    pub state: Decoder,
-    /// the piece, or none for the finish
-    pub piece: Option<&'a [u8]>,
-    pub out: usize,
-    pub list: usize,
-}
-
-impl Tried<'_> {
-    fn model(&self) -> Fed {
-        match self.piece {
-            Some(piece) => self.state.feed(piece, self.out, self.list),
-            None => self.state.finish(self.out, self.list),
-        }
-    }
-
-    /// Calls the library with a list, of which the first numbers are lent, and compares; `list` is then the model's too.
-    pub fn compare(&self, list: &mut [u32], about: impl Fn() -> String) -> Fed {
-        let fed = self.model();
-        let mut out = filled::<u8>(self.out);
-        let mut expected = out.clone();
-        let before = list.to_vec();
-        let lent = &mut list[MARGIN..MARGIN + self.list];
-        let (told, state) = match self.piece {
-            Some(piece) => calls::repair_feed(self.state, piece, inner(&mut out), lent),
-            None => calls::repair_finish(self.state, inner(&mut out), lent),
-        };
-        assert_eq!(told, fed.told, "answer {}", about());
-        assert_eq!(state, fed.state, "state {}", about());
-        expected[MARGIN..MARGIN + fed.output.len()].copy_from_slice(&fed.output);
-        assert!(out == expected, "output {}", about());
-        let mut entered = before;
-        if !fed.entries.is_empty() {
-            let at = MARGIN + 2 * fed.from_entry;
-            entered[at..at + fed.entries.len()].copy_from_slice(&fed.entries);
-        }
-        assert!(*list == entered, "list {}", about());
-        fed
-    }
-}
-
-/// How many places a call needs.
-fn needed(state: Decoder, piece: Option<&[u8]>, room: usize) -> usize {
-    let roomy = Tried {
-        state,
-        piece,
-        out: usize::MAX,
-        list: 2 * room,
-    };
-    roomy.model().output.len()
-}
-
-/// Feeds and finish of one course, with refusals tried before calls; at the end the whole is what the text's definition says.
-pub fn repair_course(run: &mut Run, course: &Course) {
-    let room = course.room;
-    let (told, mut state) = calls::repair_start(room, [9; 9]);
-    assert_eq!((told, state), start(room), "{}", course.at("start"));
-    let mut list = filled::<u32>(2 * room + 1);
-    let (fresh_list, mut output) = (list.clone(), Vec::new());
-    let pieces: Vec<Option<&[u8]>> = course.pieces().map(Some).chain([None]).collect();
-    let mut totals = vec![];
-    for (i, &piece) in pieces.iter().enumerate() {
-        let need = needed(state, piece, room);
-        let mut trial = |out: usize, lent: usize| {
-            run.cases += 1;
-            let tried = Tried {
-                state,
-                piece,
-                out,
-                list: lent,
-            };
-            tried.compare(&mut list, || {
-                course.at(format!("piece {i}, {out} places, list {lent}"))
-            })
-        };
-        if need > 0 {
-            trial(need - 1, 2 * room);
-        }
-        if room > 0 && i % 4 == 0 {
-            trial(need, 2 * room - 1);
-        }
-        let enough = 3 * (piece.map_or(0, <[u8]>::len) + 1);
-        let places = [need, enough, need + 1][(i + room) % 3];
-        let fed = trial(places, 2 * room + i % 2);
-        output.extend(&fed.output);
-        state = fed.state;
-        totals = fed.told;
-    }
-    whole(course, &totals[2..], &output, &list, fresh_list);
-    assert_eq!(state, Decoder::fresh(room), "{}", course.at("after finish"));
-    run.cases += 1;
-}
-
-/// The joined output, the totals and the list, from the text alone.
-fn whole(course: &Course, totals: &[usize], output: &[u8], list: &[u32], mut fresh: Vec<u32>) {
-    let found = damages(course.text);
-    let damaged = found.iter().map(|d| d.1).sum::<usize>();
-    let expected = [course.text.len() - damaged, damaged, found.len()];
-    assert_eq!(totals, expected, "{}", course.at("totals"));
-    assert!(
-        output == repaired(course.text),
-        "{}",
-        course.at("joined output")
+/// A random text in a random cutting, by the number of its round; hands back the text and the room of its list.
+fn random_course<T, U>(run: &mut Run, decoding: Decoding<T, U>, round: usize) -> (Vec<T>, usize)
+where
+    T: Tested,
+    U: Form,
+{
+    let length = run.random.length();
+    let text = T::text(&mut run.random, length);
+    let cuts = run.random.cuts(text.len());
+    let room = [0, 1, 2, 31, if round % 8 == 0 { 4_096 } else { 5 }][round % 5];
+    decode_course(
+        run,
+        decoding,
+        &Course {
+            text: &text,
+            cuts: &cuts,
+            room,
+        },
     );
-    for (i, (start, length)) in found.into_iter().take(course.room).enumerate() {
-        fresh[MARGIN + 2 * i] = start as u32;
-        fresh[MARGIN + 2 * i + 1] = length as u32;
+    (text, room)
+}
+
+/// An example in numbers: what each piece and then the finish write, the list, and the totals.
+struct Example<'a, T, U> {
+    pieces: &'a [&'a [T]],
+    written: &'a [&'a [U]],
+    list: &'a [u32],
+    totals: [usize; 3],
+}
+
+impl<T: Tested, U: Form> Example<'_, T, U> {
+    fn compare(&self, run: &mut Run, decoding: Decoding<T, U>) {
+        let (_, mut state) = decoding.start(4, 0);
+        let (mut out, mut list) = ([U::from(7); 16], [7; 8]);
+        for (i, &written) in self.written.iter().enumerate() {
+            let (told, next) = match self.pieces.get(i) {
+                Some(piece) => decoding.feed(state, piece, &mut out, &mut list),
+                None => decoding.finish(state, &mut out, &mut list),
+            };
+            let mut expected = vec![0, written.len()];
+            if i == self.pieces.len() {
+                expected.extend(self.totals);
+            }
+            assert_eq!((told, &out[..written.len()]), (expected, written), "{i}");
+            state = next;
+            run.cases += 1;
+        }
+        let (entered, others) = list.split_at(self.list.len());
+        assert!(
+            entered == self.list && others.iter().all(|&n| n == 7),
+            "{list:?}"
+        );
+        assert_eq!(state, State::fresh(4));
     }
-    assert!(list == fresh, "{}", course.at("joined list"));
 }
 
 /// The watch over the same text, byte by byte.
@@ -156,20 +77,10 @@ fn watch_course(run: &mut Run, text: &[u8], room: usize) {
     }
 }
 
+/// Bytes, repaired; and the watch.
 pub fn repair(run: &mut Run) {
     for round in 0..run.rounds(4_000) {
-        let length = run.random.length();
-        let text = run.random.mixture(length);
-        let cuts = run.random.cuts(text.len());
-        let room = [0, 1, 2, 31, if round % 8 == 0 { 4_096 } else { 5 }][round % 5];
-        repair_course(
-            run,
-            &Course {
-                text: &text,
-                cuts: &cuts,
-                room,
-            },
-        );
+        let (text, room) = random_course(run, PIECES, round);
         if text.len() < 400 {
             watch_course(run, &text, room);
         }
@@ -180,7 +91,85 @@ pub fn repair(run: &mut Run) {
         (b"", &[0, 0], 0),
     ];
     for (text, cuts, room) in fixed {
-        repair_course(run, &Course { text, cuts, room });
+        decode_course(run, PIECES, &Course { text, cuts, room });
+    }
+    let example = Example::<u8, u8> {
+        pieces: &[b"\xE2", b"\x82", b"\x41"],
+        written: &[b"", b"", b"\xEF\xBF\xBD\x41", b""],
+        list: &[0, 2],
+        totals: [1, 2, 1],
+    };
+    example.compare(run, PIECES);
+}
+
+/// Units, written as bytes. Starts and lengths are in units, whatever was written of them.
+pub fn units(run: &mut Run) {
+    for round in 0..run.rounds(1_500) {
+        random_course(run, UNIT_PIECES, round);
+    }
+    let examples: [Example<u16, u8>; 4] = [
+        Example {
+            pieces: &[&[0xD83D], &[0xD83D, 0xDE86]],
+            written: &[b"", b"\xEF\xBF\xBD\xF0\x9F\x9A\x86", b""],
+            list: &[0, 1],
+            totals: [2, 1, 1],
+        },
+        Example {
+            pieces: &[&[0x20AC, 0xD83D], &[], &[0xDE86]],
+            written: &[b"\xE2\x82\xAC", b"", b"\xF0\x9F\x9A\x86", b""],
+            list: &[],
+            totals: [3, 0, 0],
+        },
+        Example {
+            pieces: &[&[0x20AC, 0xD83D], &[0x20AC], &[0xDC00, 0xDBFF]],
+            written: &[
+                b"\xE2\x82\xAC",
+                b"\xEF\xBF\xBD\xE2\x82\xAC",
+                b"\xEF\xBF\xBD",
+                b"\xEF\xBF\xBD",
+            ],
+            list: &[1, 1, 3, 1, 4, 1],
+            totals: [2, 3, 3],
+        },
+        Example {
+            pieces: &[&[0xDE86, 0xD83D]],
+            written: &[b"\xEF\xBF\xBD", b"\xEF\xBF\xBD"],
+            list: &[0, 1, 1, 1],
+            totals: [0, 2, 2],
+        },
+    ];
+    for example in examples {
+        example.compare(run, UNIT_PIECES);
+    }
+}
+
+/// Bytes, written as units. Starts and lengths are in bytes.
+pub fn to_units(run: &mut Run) {
+    for round in 0..run.rounds(1_500) {
+        random_course(run, PIECES_TO_UNITS, round);
+    }
+    let examples: [Example<u8, u16>; 3] = [
+        Example {
+            pieces: &[b"\xE2", b"\x82", b"\x41"],
+            written: &[&[], &[], &[0xFFFD, 0x41], &[]],
+            list: &[0, 2],
+            totals: [1, 2, 1],
+        },
+        Example {
+            pieces: &[b"\xF0\x9F", b"\x9A\x86\xF0\x9F", b"\x9A"],
+            written: &[&[], &[0xD83D, 0xDE86], &[], &[0xFFFD]],
+            list: &[4, 3],
+            totals: [4, 3, 1],
+        },
+        Example {
+            pieces: &[b"\xE2\x82\xAC\x80\xC3", b"\xA9\xFF"],
+            written: &[&[0x20AC, 0xFFFD], &[0xE9, 0xFFFD], &[]],
+            list: &[3, 1, 6, 1],
+            totals: [5, 2, 2],
+        },
+    ];
+    for example in examples {
+        example.compare(run, PIECES_TO_UNITS);
     }
 }
 
@@ -209,14 +198,13 @@ pub fn try_build(
 }
 
 /// Feeds and finish of one course; at the end the index is the text's.
-pub fn build_course(run: &mut Run, course: &Course) {
+pub fn build_course(run: &mut Run, course: &Course<u8>) {
     let (reply, mut state) = calls::build_fresh([9; 8]);
     assert_eq!((reply, state), (0, Builder::fresh()));
     let (length, mut taken) = (course.text.len(), 0);
     let mut row = filled::<u32>(need(length) + 3);
     let mut expected = row.clone();
-    let pieces: Vec<Option<&[u8]>> = course.pieces().map(Some).chain([None]).collect();
-    for (i, &piece) in pieces.iter().enumerate() {
+    for (i, piece) in course.pieces().into_iter().enumerate() {
         taken += piece.map_or(0, <[u8]>::len);
         let mut trial = |lent: usize| {
             run.cases += 1;

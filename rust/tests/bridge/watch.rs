@@ -1,7 +1,8 @@
 //! The watch over a lent state: the struct itself crosses and is changed in place, byte by byte; each reply and every field are the
 //! model's and those of the step by value.
 use crate::calls;
-use crate::common::model::decoder::{bytes, Decoder};
+use crate::common::model::decoder::Decoder;
+use crate::common::model::pending::elements;
 use crate::states;
 use crate::Run;
 
@@ -26,7 +27,7 @@ extern "C" {
 impl Lent {
     /// The model's state; of each number that is held, the last byte.
     fn of(state: Decoder) -> Lent {
-        let held = bytes(&state.held);
+        let held = elements::<u8>(&state.held);
         Lent {
             held: [held[0], held[1], held[2]],
             pending: state.pending,
@@ -53,7 +54,7 @@ impl Lent {
 
 /// Watches some bytes from a state on, all in one place between two states that nobody lends; gives the last state.
 fn watch_all(run: &mut Run, from: Decoder, text: &[u8]) -> Decoder {
-    let guard = Lent::of(Decoder::of([0xA5; 9]));
+    let guard = Lent::of(Decoder::of(&[0xA5; 9]));
     let mut row = [guard, Lent::of(from), guard];
     for (i, &b) in text.iter().enumerate() {
         let before = row[1].state();
@@ -73,15 +74,15 @@ fn text(run: &mut Run) {
     let length = run.random.below(400);
     let text = run.random.mixture(length);
     let room = run.random.pick(&[0, 1, 2, 31, 4_096]);
-    let fed = Decoder::fresh(room).feed(&text, usize::MAX, usize::MAX);
+    let fed = Decoder::fresh(room).feed::<u8>(&text, usize::MAX, usize::MAX);
     let last = watch_all(run, Decoder::fresh(room), &text);
     assert_eq!(last, fed.state, "room {room}, text {text:02X?}");
     run.cases += 1;
 }
 
 /// Some bytes from a state on that no call need have made: a refusal leaves every field, whatever the numbers.
-fn state(run: &mut Run, numbers: [usize; 9]) {
-    let from = Lent::of(Decoder::of(numbers)).state();
+fn state(run: &mut Run, state: Decoder) {
+    let from = Lent::of(state).state();
     let length = 1 + run.random.below(8);
     let text = run.random.mixture(length);
     let last = watch_all(run, from, &text);
@@ -95,11 +96,11 @@ pub fn all(run: &mut Run) {
         text(run);
     }
     for _ in 0..run.rounds(20_000) {
-        let numbers = states::decoder(run).numbers();
-        state(run, numbers);
+        let near = states::decoder(run);
+        state(run, near);
     }
     for _ in 0..run.rounds(2_000) {
         let numbers = [0; 9].map(|_| run.random.next() as usize);
-        state(run, numbers);
+        state(run, Decoder::of(&numbers));
     }
 }

@@ -143,6 +143,26 @@ impl Random {
         units
     }
 
+    /// Units of a text, or pairs, halves and other units in any order; the last may be a half.
+    pub fn unit_mixture(&mut self, length: usize) -> Vec<u16> {
+        if self.below(2) == 0 {
+            return self.units(length);
+        }
+        let mut units = Vec::new();
+        while units.len() < length {
+            let (first, second) = (self.below(0x400) as u16, self.below(0x400) as u16);
+            match self.below(6) {
+                0 => units.extend([0xD800 + first, 0xDC00 + second]),
+                1 => units.push(0xD800 + first),
+                2 => units.push(0xDC00 + second),
+                3 => units.push(self.pick(&UNITS)),
+                4 => units.push(self.next() as u16),
+                _ => units.push(self.below(0x80) as u16),
+            }
+        }
+        units
+    }
+
     /// Numbers: of a text, at times with some that are no scalar values.
     pub fn codes(&mut self, length: usize) -> Vec<u32> {
         let text = self.mixture(length);

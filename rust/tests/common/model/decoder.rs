@@ -1,12 +1,12 @@
-//! Repair in pieces: the state, its tests, and what each call writes, enters and tells.
-use super::forms::{converted, segments};
+//! Repair in pieces: the state, its tests, and what each call writes, enters and tells; over bytes or units, written in any form.
+use super::forms::{converted, mark, segments, Form};
+use super::pending::{elements, hold, is_tail, joined, Piece};
 use super::{Told, LIMIT, ROOM};
-use crate::common::is_beginning;
 
-/// What the decoder keeps between two pieces, in any numbers.
+/// What a decoder keeps between two pieces, in any numbers.
 #[derive(Clone, Copy, Debug, PartialEq, Eq)]
-pub struct Decoder {
-    pub held: [usize; 3],
+pub struct State<T: Piece> {
+    pub held: T::Held,
     pub pending: usize,
     pub taken: usize,
     pub whole: usize,
@@ -15,75 +15,70 @@ pub struct Decoder {
     pub room: usize,
 }
 
+/// The state of a decoder that takes bytes, whatever it writes.
+pub type Decoder = State<u8>;
+/// The state of the decoder that takes units.
+pub type UnitDecoder = State<u16>;
+
 /// What a call tells, the state afterwards, what it writes from the start of the output, and its entries from one on.
 #[derive(Clone, Debug, PartialEq, Eq)]
-pub struct Fed {
+pub struct Fed<T: Piece, U> {
     pub told: Told,
-    pub state: Decoder,
-    pub output: Vec<u8>,
+    pub state: State<T>,
+    pub output: Vec<U>,
     pub entries: Vec<u32>,
     pub from_entry: usize,
 }
 
-/// Are n of these numbers pending bytes: none, or a proper beginning of a well-formed sequence, and the others 0?
-pub fn is_tail(held: [usize; 3], n: usize) -> bool {
-    n <= 3 && is_beginning(&bytes(&held[..n])) && held[n..].iter().all(|&b| b == 0)
-}
-
-pub fn bytes(held: &[usize]) -> Vec<u8> {
-    held.iter().map(|&b| b as u8).collect()
-}
-
-/// The first three bytes, 0 for each one missing.
-pub fn hold(left: &[u8]) -> [usize; 3] {
-    [0, 1, 2].map(|i| left.get(i).map_or(0, |&b| b as usize))
-}
-
-impl Decoder {
-    pub fn fresh(room: usize) -> Decoder {
-        Decoder::of([0, 0, 0, 0, 0, 0, 0, 0, room])
-    }
-
-    /// The state of nine numbers, and its numbers.
-    pub fn of(n: [usize; 9]) -> Decoder {
-        Decoder {
-            held: [n[0], n[1], n[2]],
-            pending: n[3],
-            taken: n[4],
-            whole: n[5],
-            damaged: n[6],
-            count: n[7],
-            room: n[8],
+impl<T: Piece> State<T> {
+    pub fn fresh(room: usize) -> State<T> {
+        State {
+            held: T::Held::default(),
+            pending: 0,
+            taken: 0,
+            whole: 0,
+            damaged: 0,
+            count: 0,
+            room,
         }
     }
 
-    pub fn numbers(&self) -> [usize; 9] {
-        let [a, b, c] = self.held;
-        [
-            a,
-            b,
-            c,
-            self.pending,
-            self.taken,
-            self.whole,
-            self.damaged,
-            self.count,
-            self.room,
-        ]
+    /// The state of some numbers: the held ones, and six more.
+    pub fn of(numbers: &[usize]) -> State<T> {
+        let mut held = T::Held::default();
+        let (first, n) = numbers.split_at(T::PENDING);
+        held.as_mut().copy_from_slice(first);
+        State {
+            held,
+            pending: n[0],
+            taken: n[1],
+            whole: n[2],
+            damaged: n[3],
+            count: n[4],
+            room: n[5],
+        }
     }
 
-    /// The state's tests; sums are of whole numbers and never wrap.
+    pub fn numbers(&self) -> Vec<usize> {
+        let mut numbers = self.held.as_ref().to_vec();
+        numbers.extend([self.pending, self.taken, self.whole]);
+        numbers.extend([self.damaged, self.count, self.room]);
+        numbers
+    }
+
+    /// The state's tests; sums are of whole numbers and never wrap. Where a damage is one element, the count is that of the damaged.
     pub fn is_sound(&self) -> bool {
         let wide = |n: usize| n as u128;
-        is_tail(self.held, self.pending)
+        is_tail::<T>(self.held, self.pending)
             && wide(self.whole) + wide(self.damaged) + wide(self.pending) == wide(self.taken)
             && self.taken <= LIMIT
             && self.count <= self.damaged
-            && wide(self.damaged) <= 3 * wide(self.count)
+            && wide(self.damaged) <= wide(T::DAMAGE) * wide(self.count)
             && self.room <= ROOM
     }
 
-    fn refuse(&self, told: Told) -> Fed {
+    /// A refusal changes nothing.
+    pub fn refuse<U>(&self, told: Told) -> Fed<T, U> {
         Fed {
             told,
             state: *self,
@@ -107,10 +102,10 @@ impl Decoder {
     }
 
     /// The state behind a stretch of text from the last settled place, all of which is settled, and its entries.
-    fn settle(&self, stretch: &[u8]) -> (Decoder, Vec<u32>) {
+    fn settle(&self, stretch: &[T]) -> (State<T>, Vec<u32>) {
         let start = self.taken - self.pending;
-        let mut next = Decoder {
-            held: [0; 3],
+        let mut next = State {
+            held: T::Held::default(),
             pending: 0,
             taken: start + stretch.len(),
             ..*self
@@ -131,24 +126,19 @@ impl Decoder {
     }
 
     /// Feeds a piece, with so many places of output and numbers of list.
-    pub fn feed(&self, piece: &[u8], out: usize, list: usize) -> Fed {
+    pub fn feed<U: Form>(&self, piece: &[T], out: usize, list: usize) -> Fed<T, U> {
         if let Some(told) = self.refusal(piece.len(), list) {
             return self.refuse(told);
         }
-        let mut joined = bytes(&self.held[..self.pending]);
-        joined.extend_from_slice(piece);
-        let left = segments(&joined)
-            .last()
-            .map_or(0, |(_, s)| if s.sure { 0 } else { s.length });
-        let (stretch, tail) = joined.split_at(joined.len() - left);
-        let output: Vec<u8> = converted(stretch);
+        let (stretch, tail) = joined(self.held, self.pending, piece);
+        let output: Vec<U> = converted(&stretch);
         if out < output.len() {
             return self.refuse(vec![3, output.len()]);
         }
-        let (mut state, entries) = self.settle(stretch);
-        state.held = hold(tail);
-        state.pending = left;
-        state.taken += left;
+        let (mut state, entries) = self.settle(&stretch);
+        state.held = hold(&tail);
+        state.pending = tail.len();
+        state.taken += tail.len();
         Fed {
             told: vec![0, output.len()],
             state,
@@ -159,27 +149,30 @@ impl Decoder {
     }
 
     /// Ends the text.
-    pub fn finish(&self, out: usize, list: usize) -> Fed {
+    pub fn finish<U: Form>(&self, out: usize, list: usize) -> Fed<T, U> {
         if let Some(told) = self.refusal(0, list) {
             return self.refuse(told);
         }
-        let output: Vec<u8> = converted(&bytes(&self.held[..self.pending]));
+        let left: Vec<T> = elements(&self.held.as_ref()[..self.pending]);
+        let output: Vec<U> = converted(&left);
         if out < output.len() {
             return self.refuse(vec![3, output.len()]);
         }
-        let (total, entries) = self.settle(&bytes(&self.held[..self.pending]));
+        let (total, entries) = self.settle(&left);
         Fed {
             told: vec![0, output.len(), total.whole, total.damaged, total.count],
-            state: Decoder::fresh(self.room),
+            state: State::fresh(self.room),
             output,
             entries,
             from_entry: self.count,
         }
     }
+}
 
+impl Decoder {
     /// The watch takes one byte: its reply, and the state afterwards.
     pub fn watch(&self, b: u8) -> (usize, Decoder) {
-        let fed = self.feed(&[b], usize::MAX, usize::MAX);
+        let fed = self.feed::<u8>(&[b], usize::MAX, usize::MAX);
         if fed.told[0] == 0 {
             (fed.state.count, fed.state)
         } else {
@@ -189,10 +182,15 @@ impl Decoder {
 }
 
 /// The start: what it tells, and the state.
-pub fn start(room: usize) -> (Told, Decoder) {
+pub fn start<T: Piece>(room: usize) -> (Told, State<T>) {
     if room > ROOM {
-        (vec![7], Decoder::fresh(0))
+        (vec![7], State::fresh(0))
     } else {
-        (vec![0], Decoder::fresh(room))
+        (vec![0], State::fresh(room))
     }
+}
+
+/// The most places that a feed of so many elements can need in a form: U+FFFD for each of them, and one for what is pending.
+pub fn most<U: Form>(n: usize) -> usize {
+    mark::<U>().len() * (n.min(LIMIT) + 1)
 }

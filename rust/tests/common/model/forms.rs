@@ -1,6 +1,7 @@
 //! The three forms of text: what stands first, strict reading, conversion and repair.
 use super::{over_limit, Told};
 use crate::common::{is_beginning, segment};
+use std::fmt::Debug;
 
 /// A segment: how many elements it takes, its code point if it is whole, and whether that is sure whatever follows.
 #[derive(Clone, Copy, Debug, PartialEq, Eq)]
@@ -13,7 +14,7 @@ pub struct Segment {
 const REPLACEMENT: char = '\u{FFFD}';
 
 /// A form of text, by its elements.
-pub trait Form: Copy {
+pub trait Form: Copy + Debug + PartialEq + From<u8> {
     /// The segment that stands first in a text that is not empty.
     fn segment(text: &[Self]) -> Segment;
     /// What strict reading tells of its first damage.
@@ -134,6 +135,13 @@ pub fn check<T: Form>(text: &[T]) -> Told {
     }
     let damage = segments(text).into_iter().find(|(_, s)| s.point.is_none());
     damage.map_or(vec![0], |(start, s)| T::refusal(start, s.length))
+}
+
+/// U+FFFD in a form.
+pub fn mark<U: Form>() -> Vec<U> {
+    let mut out = Vec::new();
+    U::put(REPLACEMENT, &mut out);
+    out
 }
 
 /// A text in a form, U+FFFD for each damage.

@@ -1,6 +1,5 @@
 //! The index: what is built, lookup in any numbers, the audit, and the builder in pieces.
-use super::decoder::{bytes, hold, is_tail};
-use super::forms::segments;
+use super::pending::{elements, hold, is_tail, joined};
 use super::places::{places, walk, Place, BYTES, LINES};
 use super::{over_limit, Told, LIMIT};
 
@@ -114,11 +113,11 @@ impl Built {
 
 impl Builder {
     pub fn fresh() -> Builder {
-        Builder::of([0; 8])
+        Builder::of(&[0; 8])
     }
 
     /// The state of eight numbers, and its numbers.
-    pub fn of(n: [usize; 8]) -> Builder {
+    pub fn of(n: &[usize]) -> Builder {
         Builder {
             held: [n[0], n[1], n[2]],
             pending: n[3],
@@ -145,7 +144,7 @@ impl Builder {
 
     /// The state's tests.
     pub fn is_sound(&self) -> bool {
-        is_tail(self.held, self.pending)
+        is_tail::<u8>(self.held, self.pending)
             && self.taken <= LIMIT
             && self.pending <= self.taken
             && self.lines <= self.points
@@ -197,16 +196,11 @@ impl Builder {
         if let Some(told) = self.refusal(piece.len(), row) {
             return self.refuse(told);
         }
-        let mut joined = bytes(&self.held[..self.pending]);
-        joined.extend_from_slice(piece);
-        let left = segments(&joined)
-            .last()
-            .map_or(0, |(_, s)| if s.sure { 0 } else { s.length });
-        let (stretch, tail) = joined.split_at(joined.len() - left);
-        let mut done = self.settle(stretch);
-        done.state.held = hold(tail);
-        done.state.pending = left;
-        done.state.taken += left;
+        let (stretch, tail) = joined(self.held, self.pending, piece);
+        let mut done = self.settle(&stretch);
+        done.state.held = hold(&tail);
+        done.state.pending = tail.len();
+        done.state.taken += tail.len();
         done
     }
 
@@ -215,7 +209,7 @@ impl Builder {
         if let Some(told) = self.refusal(0, row) {
             return self.refuse(told);
         }
-        let mut done = self.settle(&bytes(&self.held[..self.pending]));
+        let mut done = self.settle(&elements(&self.held[..self.pending]));
         done.state = Builder::fresh();
         done
     }

@@ -3,6 +3,7 @@
 pub mod decoder;
 pub mod forms;
 pub mod index;
+pub mod pending;
 pub mod places;
 
 /// The most bytes, units or code points of a text.
