@@ -12,6 +12,12 @@ extern "C" {
     fn bridge_pieces_start(room: usize, state: *mut usize, k: usize, says: *mut usize, m: usize) -> usize;
     fn bridge_pieces_feed(state: *mut usize, k: usize, piece: *const u8, n: usize, out: *mut u8, o: usize, list: *mut u32, l: usize, says: *mut usize, m: usize) -> usize;
     fn bridge_pieces_finish(state: *mut usize, k: usize, out: *mut u8, o: usize, list: *mut u32, l: usize, says: *mut usize, m: usize) -> usize;
+    fn bridge_unit_pieces_start(room: usize, state: *mut usize, k: usize, says: *mut usize, m: usize) -> usize;
+    fn bridge_unit_pieces_feed(state: *mut usize, k: usize, piece: *const u16, n: usize, out: *mut u8, o: usize, list: *mut u32, l: usize, says: *mut usize, m: usize) -> usize;
+    fn bridge_unit_pieces_finish(state: *mut usize, k: usize, out: *mut u8, o: usize, list: *mut u32, l: usize, says: *mut usize, m: usize) -> usize;
+    fn bridge_pieces_to_units_start(room: usize, state: *mut usize, k: usize, says: *mut usize, m: usize) -> usize;
+    fn bridge_pieces_to_units_feed(state: *mut usize, k: usize, piece: *const u8, n: usize, out: *mut u16, o: usize, list: *mut u32, l: usize, says: *mut usize, m: usize) -> usize;
+    fn bridge_pieces_to_units_finish(state: *mut usize, k: usize, out: *mut u16, o: usize, list: *mut u32, l: usize, says: *mut usize, m: usize) -> usize;
     fn bridge_index_feed(state: *mut usize, k: usize, piece: *const u8, n: usize, row: *mut u32, r: usize, says: *mut usize, m: usize) -> usize;
     fn bridge_index_finish(state: *mut usize, k: usize, row: *mut u32, r: usize, says: *mut usize, m: usize) -> usize;
     fn bridge_places_at_unit(text: *const u8, n: usize, offset: usize, says: *mut usize, m: usize) -> usize;
@@ -59,21 +65,31 @@ writers! {
 /// How many damages the list of a repair in pieces has room for.
 pub const ROOM: usize = 32;
 
-/// A text repaired in pieces of so many bytes, with its finish: how many bytes were written.
-pub fn repair_pieces(text: &[u8], size: usize, out: &mut [u8]) -> usize {
-    let (mut state, mut list, mut says) = ([0usize; 9], [0u32; 2 * ROOM], [0usize; 8]);
-    let (p, l, mut done) = (state.as_mut_ptr(), list.as_mut_ptr(), 0);
-    unsafe { bridge_pieces_start(ROOM, p, 9, says.as_mut_ptr(), 8) };
-    for piece in text.chunks(size) {
-        let (t, n, out) = (piece.as_ptr(), piece.len(), &mut out[done..]);
-        let (o, k, s) = (out.as_mut_ptr(), out.len(), says.as_mut_ptr());
-        unsafe { bridge_pieces_feed(p, 9, t, n, o, k, l, 2 * ROOM, s, 8) };
-        done += says[1];
-    }
-    let out = &mut out[done..];
-    let (o, k, s) = (out.as_mut_ptr(), out.len(), says.as_mut_ptr());
-    unsafe { bridge_pieces_finish(p, 9, o, k, l, 2 * ROOM, s, 8) };
-    done + says[1]
+/// A decoder: a text is fed in pieces of so many elements, and finished; how many places were written.
+macro_rules! decoders {
+    ($($name:ident: $start:ident, $feed:ident, $finish:ident, $state:literal, $from:ty => $to:ty;)*) => {$(
+        pub fn $name(text: &[$from], size: usize, out: &mut [$to]) -> usize {
+            let (mut state, mut list, mut says) = ([0usize; $state], [0u32; 2 * ROOM], [0usize; 8]);
+            let (p, l, mut done) = (state.as_mut_ptr(), list.as_mut_ptr(), 0);
+            unsafe { $start(ROOM, p, $state, says.as_mut_ptr(), 8) };
+            for piece in text.chunks(size) {
+                let (t, n, out) = (piece.as_ptr(), piece.len(), &mut out[done..]);
+                let (o, k, s) = (out.as_mut_ptr(), out.len(), says.as_mut_ptr());
+                unsafe { $feed(p, $state, t, n, o, k, l, 2 * ROOM, s, 8) };
+                done += says[1];
+            }
+            let out = &mut out[done..];
+            let (o, k, s) = (out.as_mut_ptr(), out.len(), says.as_mut_ptr());
+            unsafe { $finish(p, $state, o, k, l, 2 * ROOM, s, 8) };
+            done + says[1]
+        }
+    )*};
+}
+
+decoders! {
+    repair_pieces: bridge_pieces_start, bridge_pieces_feed, bridge_pieces_finish, 9, u8 => u8;
+    unit_pieces: bridge_unit_pieces_start, bridge_unit_pieces_feed, bridge_unit_pieces_finish, 7, u16 => u8;
+    pieces_to_units: bridge_pieces_to_units_start, bridge_pieces_to_units_feed, bridge_pieces_to_units_finish, 9, u8 => u16;
 }
 
 /// How many numbers the index of a text of so many bytes has.

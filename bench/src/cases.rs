@@ -91,6 +91,39 @@ pub fn pieces_whole<const SIZE: usize>(
     )
 }
 
+pub fn pieces_to_units<const SIZE: usize>(
+    text: &[u8],
+    shelf: &mut Shelf,
+    meter: &mut dyn Meter,
+) -> Pair {
+    let room = text.len() + 24;
+    writers(
+        shelf,
+        meter,
+        (room, room),
+        |out| calls::pieces_to_units(black_box(text), SIZE, out),
+        |out| peers::encoding_pieces_to_units(black_box(text), SIZE, out),
+    )
+}
+
+pub fn unit_pieces<const SIZE: usize>(
+    text: &[u8],
+    shelf: &mut Shelf,
+    meter: &mut dyn Meter,
+) -> Pair {
+    let units = as_units(text);
+    let halves: Vec<u8> = units.iter().flat_map(|u| u.to_le_bytes()).collect();
+    let (units, halves) = (shelf.put(&units), shelf.put(&halves));
+    let room = 3 * units.len() + 24;
+    writers(
+        shelf,
+        meter,
+        (room, room),
+        |out| calls::unit_pieces(black_box(units), SIZE, out),
+        |out| peers::encoding_unit_pieces(black_box(halves), SIZE, out),
+    )
+}
+
 pub fn units_encoding(text: &[u8], shelf: &mut Shelf, meter: &mut dyn Meter) -> Pair {
     let room = text.len() + 1;
     writers(

@@ -58,7 +58,7 @@ fn anywhere(row: &Row) -> Option<f64> {
         _ if row.bytes < SIXTY_FOUR => None,
         ("repair", "std lossy") => Some(0.8),
         ("repair", "encoding_rs") => Some(0.9),
-        (_, STREAMING) if row.job.piece >= Some(1_000) => Some(1.0),
+        ("repair in pieces", STREAMING) if row.job.piece >= Some(1_000) => Some(1.0),
         (name, "encoding_rs") if name.ends_with("repairing") => Some(0.7),
         _ => None,
     }

@@ -11,7 +11,7 @@ pub struct Job {
     pub peer: &'static str,
     /// only clean texts are compared: damage is refused, or one side would stop at it and the other read on
     pub strict: bool,
-    /// how many bytes a piece has, where the text comes in pieces
+    /// how many elements a piece has, where the text comes in pieces
     pub piece: Option<usize>,
     /// counted by the call and not by the byte, as most of the text is not read
     pub by_call: bool,
@@ -98,12 +98,36 @@ const fn beside_whole<const SIZE: usize>() -> Job {
     }
 }
 
+/// Bytes in pieces of so many, written as units, beside the streaming decoder.
+const fn to_units<const SIZE: usize>() -> Job {
+    Job {
+        piece: Some(SIZE),
+        ..job(
+            "bytes to units in pieces",
+            STREAMING,
+            cases::pieces_to_units::<SIZE>,
+        )
+    }
+}
+
+/// Units in pieces of so many, written as bytes, beside the streaming decoder.
+const fn from_units<const SIZE: usize>() -> Job {
+    Job {
+        piece: Some(SIZE),
+        ..strict(job(
+            "units to bytes in pieces",
+            STREAMING,
+            cases::unit_pieces::<SIZE>,
+        ))
+    }
+}
+
 pub const CHECK: &str = "strict check";
 pub const STREAMING: &str = "encoding_rs, streaming";
 /// How much of a text is fed byte by byte.
 pub const BYTE_BY_BYTE: usize = 4_096;
 
-pub const JOBS: [Job; 21] = [
+pub const JOBS: [Job; 27] = [
     job(CHECK, "std", cases::check_std),
     strict(job(CHECK, "simdutf8", cases::check_simdutf8)),
     job("repair", "std lossy", cases::repair_std),
@@ -137,6 +161,12 @@ pub const JOBS: [Job; 21] = [
         cases::bytes_encoding,
     )),
     strict(job("units to bytes, strict", "std", cases::bytes_std)),
+    to_units::<65_536>(),
+    to_units::<1_000>(),
+    to_units::<64>(),
+    from_units::<65_536>(),
+    from_units::<1_000>(),
+    from_units::<64>(),
     job("index build", "plain loop", cases::build_loop),
     strict(job(
         "index build",
@@ -160,9 +190,18 @@ fn read_by_check(text: &[u8]) -> usize {
 }
 
 impl Job {
+    /// So many elements of its text.
+    fn elements(self, n: usize) -> String {
+        if self.name.starts_with("units") {
+            format!("{} units", words::grouped(n))
+        } else {
+            words::bytes(n)
+        }
+    }
+
     /// Its name with the peer's.
     pub fn title(self) -> String {
-        let pieces = self.piece.map(|n| format!(" of {}", words::bytes(n)));
+        let pieces = self.piece.map(|n| format!(" of {}", self.elements(n)));
         format!(
             "{}{} against {}",
             self.name,

@@ -1,5 +1,5 @@
 //! The peers: what each does with a text, into a ready buffer where it can.
-use encoding_rs::{mem, UTF_8};
+use encoding_rs::{mem, UTF_16LE, UTF_8};
 
 /// Repair by encoding_rs: how many bytes it wrote.
 pub fn encoding_repair(text: &[u8], out: &mut [u8]) -> usize {
@@ -12,6 +12,29 @@ pub fn encoding_repair(text: &[u8], out: &mut [u8]) -> usize {
 pub fn encoding_pieces(text: &[u8], size: usize, out: &mut [u8]) -> usize {
     let (mut decoder, mut done) = (UTF_8.new_decoder_without_bom_handling(), 0);
     for piece in text.chunks(size) {
+        let (_, _, written, _) = decoder.decode_to_utf8(piece, &mut out[done..], false);
+        done += written;
+    }
+    let (_, _, written, _) = decoder.decode_to_utf8(&[], &mut out[done..], true);
+    done + written
+}
+
+/// Repair in pieces of so many bytes into units by encoding_rs's streaming decoder: how many units it wrote.
+pub fn encoding_pieces_to_units(text: &[u8], size: usize, out: &mut [u16]) -> usize {
+    let (mut decoder, mut done) = (UTF_8.new_decoder_without_bom_handling(), 0);
+    for piece in text.chunks(size) {
+        let (_, _, written, _) = decoder.decode_to_utf16(piece, &mut out[done..], false);
+        done += written;
+    }
+    let (_, _, written, _) = decoder.decode_to_utf16(&[], &mut out[done..], true);
+    done + written
+}
+
+/// Repair of units in pieces of so many into bytes by encoding_rs's streaming decoder, which reads each unit as two bytes, the low one
+/// first: how many bytes it wrote.
+pub fn encoding_unit_pieces(text: &[u8], size: usize, out: &mut [u8]) -> usize {
+    let (mut decoder, mut done) = (UTF_16LE.new_decoder_without_bom_handling(), 0);
+    for piece in text.chunks(2 * size) {
         let (_, _, written, _) = decoder.decode_to_utf8(piece, &mut out[done..], false);
         done += written;
     }
