@@ -1,10 +1,11 @@
 // The most places that a call can need.
 use moxandril::Target;
 ghost use mathlib.Core.Path.{_≡_};
+ghost use Rattle.utf8.specs.Scalar.{utf8};
+ghost use Rattle.utf16.specs.Scalar.{utf16};
 ghost use Rattle.convert_point.specs.Room.{mostOf};
 ghost use Rattle.decoder.specs.Room.{mostFed};
-ghost use Rattle.decoder_from_utf16.specs.Room as unitRoom;
-ghost use Rattle.decoder_to_utf16.specs.Room as toUnitsRoom;
+ghost use Rattle.decoder_shared.specs.Room as shared;
 ghost use Rattle.bridge_texts.specs.Needing.{targetOf};
 
 // 0 bytes, 1 units, else code points.
@@ -41,7 +42,7 @@ pub extern "C" fn bridge_pieces_most(n: usize) -> usize
 // moxandril::unit_pieces::most of so many units.
 #[no_mangle]
 pub extern "C" fn bridge_unit_pieces_most(n: usize) -> usize
-    ensures { λ r. ⌜ r ≡ unitRoom.mostFed n ⌝ }
+    ensures { λ r. ⌜ r ≡ shared.mostFed utf8 n ⌝ }
 {
     moxandril::unit_pieces::most(n)
 }
@@ -49,7 +50,7 @@ pub extern "C" fn bridge_unit_pieces_most(n: usize) -> usize
 // moxandril::pieces_to_units::most of so many bytes.
 #[no_mangle]
 pub extern "C" fn bridge_pieces_to_units_most(n: usize) -> usize
-    ensures { λ r. ⌜ r ≡ toUnitsRoom.mostFed n ⌝ }
+    ensures { λ r. ⌜ r ≡ shared.mostFed utf16 n ⌝ }
 {
     moxandril::pieces_to_units::most(n)
 }

@@ -56,7 +56,7 @@ faithful Bytes = utf8-faithful
 faithful Units = utf16-faithful
 faithful Points = points-faithful
 
-at-most-two : (c : ℕ) → length (pair c) ≤ 2
+pub at-most-two : (c : ℕ) → length (pair c) ≤ 2
 at-most-two c = split (ltb c 0x10000) (λ e. rw e (omega arith)) (λ e. rw e (omega arith))
 
 -- a sequence of bytes takes no more units than it has bytes
@@ -110,7 +110,7 @@ module _ (x : ℕ) (xs : List ℕ) where
   whole-few Points Units e = omega (arith, at-most-two (formOf Points .value (body (first (formOf Points .look) x xs))))
   whole-few Points Points e = omega arith
 
-  segment-few : (from to : Target)
+  pub segment-few : (from to : Target)
       → length (formOf to .write (pointOf (formOf from) (first (formOf from .look) x xs))) ≤ placesEach from to * size (first (formOf from .look) x xs)
   segment-few from to = go (formOf from .look x xs .tag) refl
     where

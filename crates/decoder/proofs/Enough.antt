@@ -1,84 +1,46 @@
--- The room that is enough for a feed and for finish: what is pending becomes one segment, with or without the next bytes.
-use mathlib.Core.Path.{_≡_, ap, _∙_}
-use Prim.Native.Nat.{ℕ, _+_, _-_, _*_, _≤_}
-use mathlib.Core.Bool.{true, false}
-use native.Mathlib.Nat.{add-zero}
-use mathlib.Core.List.{List, [], _∷_, _++_, append-nil}
-use lib.ListN.{length, drop, length-drop}
-use lib.Dec.{eqb}
-use borrow.Author.Tests.{not-true, eqb-true, eqb-false, le-ltb}
+-- The room that is enough for a feed and for finish.
+use mathlib.Core.Path.{_≡_}
+use Prim.Native.Nat.{ℕ, _+_, _≤_}
+use mathlib.Core.Bool.{true}
+use mathlib.Core.List.{List}
+use lib.ListN.{length}
 use native.Mathlib.Omega.{arith}
-use Rattle.theory.specs.Reader.{Segment, first, cut, parts, pending}
+use Rattle.theory.specs.Reader.{Segment, first}
 use Rattle.theory.specs.Table.{Kind, isDamage}
-use Rattle.theory.specs.Tally.{total, size}
+use Rattle.theory.specs.Tally.{size}
 use Rattle.theory.proofs.Cases.{split}
-use Rattle.theory.proofs.Divisions.{cut-nil, cut-pending, pending-short}
-use Rattle.theory.proofs.TalliesAdd.{log-is}
 use Rattle.terms.specs.Form.{replacement, mend}
-use Rattle.terms.specs.Limits.{limit, entryWidth, mostPending}
+use Rattle.terms.specs.Limits.{limit, mostPending}
 use Rattle.terms.specs.declared.Decoder.{Decoder}
 use Rattle.utf8.specs.Bytes.{bytes}
 use Rattle.utf8.specs.Scalar.{utf8}
 use Rattle.utf8.proofs.RowsOfBytes.{bytes-division, bytes-hold}
-use Rattle.utf8_pending.specs.Tail.{firstSettled, four}
-use Rattle.utf8_pending.proofs.SettledFirst.{settled-nil, settled-sure, settled-open}
-use Rattle.utf8_pending.proofs.SeamIsFirst.{seam-pending, seam-over, seam-inside, seam-behind}
-use Rattle.decoder_shared.specs.Decoding.{numbers}
-use Rattle.decoder.specs.Inside.Acting.{need}
-use Rattle.decoder.proofs.SettledPlaces.{need-append, parts-small}
+use Rattle.decoder_shared.proofs.Enough.{Few}
+use Rattle.decoder_shared.proofs.Enough as shared
+use Rattle.decoder.proofs.SettledPlaces.{parts-small}
 use Rattle.decoder.proofs.TestsAsFacts.{sound-is}
-use Rattle.decoder.specs.State.{left, sound, opened, fed, ended}
+use Rattle.decoder.specs.State.{sound, byteDecoding, fed, ended}
 use Rattle.decoder.specs.Room.{mostFed}
 
--- the places of U+FFFD
-abbrev each : ℕ
-each = length (utf8 .write replacement)
-
 -- one segment, over the n bytes at its start that were pending
-one-few : (s : Segment Kind) (n : ℕ) → n ≤ size s → n ≤ mostPending → need (s ∷ []) + n ≤ each + size s
-one-few s n l h = rw append-nil (split (isDamage (s .tag)) (λ e. rw e (omega arith)) (λ e. rw e (omega arith)))
+one-few : (s : Segment Kind) (n : ℕ) → n ≤ size s → n ≤ mostPending → length (mend utf8 s) + n ≤ length (utf8 .write replacement) + size s
+one-few s n l h = split (isDamage (s .tag)) (λ e. rw e (omega arith)) (λ e. rw e (omega arith))
 
-settled-few : (text : List ℕ) (n : ℕ) → n ≤ total size (firstSettled text) → n ≤ mostPending → need (firstSettled text) + n ≤ each + total size (firstSettled text)
-settled-few [] n l h = rw settled-nil (omega arith)
-settled-few (x ∷ xs) n l h = split (bytes x xs .sure)
-    (λ e.
-    let k : total size (firstSettled (x ∷ xs)) ≡ size (first bytes x xs) = ap (total size) (settled-sure x xs e) ∙ add-zero (size (first bytes x xs)) in
-    rw (k, settled-sure x xs e) (one-few (first bytes x xs) n (omega (arith, k)) h))
-    (λ e. rw (settled-open x xs e) (omega arith))
-
-short : (tail : List ℕ) → pending bytes tail ≡ true → length tail ≤ mostPending
-short = pending-short bytes-division mostPending bytes-hold
-
-module _ (tail piece : List ℕ) (begins : pending bytes tail ≡ true) where
-  joined-few : need (parts bytes (tail ++ piece) .done) ≤ each * length piece + each
-  joined-few = split (eqb (total size (firstSettled (four tail piece))) 0)
-      (λ e. rw (seam-pending tail piece begins (eqb-true _ _ e)) (omega arith))
-      (λ e.
-      let some : total size (firstSettled (four tail piece)) ≡ 0 → ⊥ = eqb-false _ _ e in
-      let n : ℕ = total size (firstSettled (four tail piece)) in
-      let rest : List ℕ = drop (n - length tail) piece in
-      let o = seam-over tail piece begins some in
-      rw (seam-behind tail piece begins some, need-append (firstSettled (four tail piece)) (parts bytes rest .done))
-      (omega (arith, settled-few (four tail piece) (length tail) o (short tail begins), seam-inside tail piece begins some, o, parts-small rest, length-drop (n - length tail) piece)))
-
-ended-few : (tail : List ℕ) → pending bytes tail ≡ true → need (cut bytes tail) ≤ each
-ended-few [] p = rw cut-nil (omega arith)
-ended-few (x ∷ xs) p =
-    let e : bytes x xs .sure ≡ false = not-true (bytes x xs .sure) p in
-    let s : Segment Kind = record { head = x; tail = xs; tag = bytes x xs .tag } in
-    rw (cut-pending bytes-division mostPending bytes-hold x xs e) (omega (arith, one-few s (size s) (omega arith) (short (x ∷ xs) p)))
+bytes-few : Few byteDecoding utf8
+bytes-few = record {
+  hold = mostPending;
+  division = bytes-division;
+  holds = bytes-hold;
+  some = omega arith;
+  one = λ x xs. one-few (first bytes x xs);
+  small = parts-small;
+}
 
 module _ (d : Decoder) (tests : sound d ≡ true) (list : List ℕ) where
-  begins : pending bytes (left d) ≡ true
-  begins = sound-is d tests .tail .begins
-
   -- THE ROOM IS ENOUGH for a feed
   pub enough : (piece : List ℕ) → length piece ≤ limit → length (fed d piece list .kept .out) ≤ mostFed (length piece)
-  enough piece h =
-      rw (log-is isDamage (mend utf8) numbers entryWidth (d .room) (opened d list .kept) (parts bytes (left d ++ piece) .done), le-ltb limit (length piece) h)
-      (omega (arith, joined-few (left d) piece begins))
+  enough = shared.enough byteDecoding utf8 bytes-few d (sound-is d tests .tail .begins) list
 
   -- and for finish
   pub enough-ended : length (ended d list .out) ≤ mostFed 0
-  enough-ended =
-      rw (log-is isDamage (mend utf8) numbers entryWidth (d .room) (opened d list .kept) (cut bytes (left d))) (ended-few (left d) begins)
+  enough-ended = shared.enough-ended byteDecoding utf8 bytes-few d (sound-is d tests .tail .begins) list

@@ -13,7 +13,7 @@ use Rattle.terms.specs.declared.Decoder.{Decoder}
 use Rattle.terms.specs.declared.Refusal.the-variants.{NoRoom}
 use Rattle.utf8.specs.Scalar.{utf8}
 use Rattle.utf8.proofs.RowsOfBytes.{bytes-division, bytes-hold, whole-sure}
-use Rattle.decoder_shared.specs.Steps.{counted, struck}
+use Rattle.decoder_shared.specs.Inside.Steps.{counted, struck}
 use Rattle.decoder_shared.proofs.ChecksInOrder.{Admits, admits}
 use Rattle.decoder_shared.proofs.FinishAnswers as any
 use Rattle.decoder.specs.Checks.{admitSays}

@@ -2,7 +2,7 @@
 use decoder_shared::Admission;
 use terms::Decoder;
 ghost use mathlib.Core.Path.{_≡_};
-ghost use Rattle.decoder_shared.specs.Steps.{admission};
+ghost use Rattle.decoder_shared.specs.Checks.{admission};
 ghost use Rattle.decoder.specs.Tests.{sound, balanced};
 ghost use Rattle.decoder.specs.Checks.{admitSays};
 

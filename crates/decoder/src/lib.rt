@@ -5,13 +5,13 @@ use terms::Decoder;
 use terms::First;
 use terms::Refusal;
 use terms::Written;
-use utf8_pending::Seam;
 ghost use mathlib.Core.Path.{_≡_};
 ghost use Prim.Native.Nat.{_+_};
 ghost use mathlib.Core.List.{[], _∷_};
 ghost use lib.ListN.{length};
+ghost use Rattle.utf8_pending.specs.Tail.{seamed};
 ghost use Rattle.decoder.specs.Checks.{admitSays};
-ghost use Rattle.decoder.specs.State.{fed};
+ghost use Rattle.decoder.specs.State.{left, fed};
 ghost use Rattle.decoder.specs.Feeding.{Starts, Feeds, Finishes};
 ghost use Rattle.decoder.specs.Room.{mostFed};
 ghost use Rattle.decoder.specs.Inside.Steps as steps;
@@ -119,7 +119,7 @@ fn feed_rest(
 // A piece is fed behind what is pending: their seam tells whether anything is settled yet. An empty one tells nothing, and the piece goes
 // on from its start.
 fn join(seam: &[u8], state: Decoder, piece: &[u8], out: &mut [u8], list: &mut [u32]) -> Fed
-    requires { ⌜ (admitSays state (length (now piece)) (length (now list)) ≡ 0 ∷ []) × (now seam ≡ steps.seamed state (now piece)) ⌝ }
+    requires { ⌜ (admitSays state (length (now piece)) (length (now list)) ≡ 0 ∷ []) × (now seam ≡ seamed (left state) (now piece)) ⌝ }
     ensures { λ r. ⌜ steps.Answers state (state .taken + length (now (piece .entry))) (fed state (now (piece .entry)) (now (list .entry)))
         (now (out .entry)) (now (list .entry)) (now (out .exit)) (now (list .exit)) r ⌝ }
 {
@@ -136,27 +136,14 @@ fn join(seam: &[u8], state: Decoder, piece: &[u8], out: &mut [u8], list: &mut [u
     feed_rest(seg, seam, &piece[from..], state, taken, out, list)
 }
 
-// The seam of what is pending and a piece. Where nothing is pending it is empty, and the piece is read where it lies.
-fn seam_with(state: Decoder, piece: &[u8]) -> Seam
-    ensures { λ r. ⌜ r ≡ steps.seamWith state (now (piece .entry)) ⌝ }
-{
-    if state.pending == 0 {
-        return Seam {
-            bytes: [0; 4],
-            size: 0,
-        };
-    }
-    let held = state.held;
-    utf8_pending::seam_of(held, state.pending, piece)
-}
-
 // A state that may take a piece takes it.
 fn take(state: Decoder, piece: &[u8], out: &mut [u8], list: &mut [u32]) -> Fed
     requires { ⌜ admitSays state (length (now piece)) (length (now list)) ≡ 0 ∷ [] ⌝ }
     ensures { λ r. ⌜ steps.Answers state (state .taken + length (now (piece .entry))) (fed state (now (piece .entry)) (now (list .entry)))
         (now (out .entry)) (now (list .entry)) (now (out .exit)) (now (list .exit)) r ⌝ }
 {
-    let seam = seam_with(state, piece);
+    let held = state.held;
+    let seam = utf8_pending::seam_with(held, state.pending, piece);
     let bytes = seam.bytes;
     let n = seam.size;
     join(&bytes[..n], state, piece, out, list)

@@ -15,7 +15,7 @@ use Rattle.convert_point.specs.Puts.{fitting, Puts}
 use Rattle.decoder_shared.specs.Decoding.{fresh}
 use Rattle.decoder_shared.specs.Checks.{admitSays}
 use Rattle.decoder_shared.specs.Calls.{Finishes}
-use Rattle.decoder_shared.specs.Steps.{Fits, struck}
+use Rattle.decoder_shared.specs.Inside.Steps.{Fits, struck}
 use Rattle.decoder_shared.proofs.ChecksInOrder.{Admits, admits}
 use Rattle.decoder_shared.proofs.FinishAnswers.{finish-none, finish-short, finish-done}
 use Rattle.decoder_from_utf16.specs.State.{unitDecoding}

@@ -20,7 +20,7 @@ use Rattle.terms.proofs.WalkBySegments.{part-is}
 use Rattle.utf16.specs.Units.{units}
 use Rattle.utf16.proofs.RowsOfUnits.{units-division, FirstHalf, first-stopped, pair-whole}
 use Rattle.decoder_shared.specs.Decoding.{fed}
-use Rattle.decoder_shared.specs.Steps.{tallied, talliedAs, Rests, behind, Answers}
+use Rattle.decoder_shared.specs.Inside.Steps.{tallied, talliedAs, Rests, behind, Answers}
 use Rattle.decoder_shared.proofs.ChecksInOrder.{Admits}
 use Rattle.decoder_shared.proofs.TalliedWalk.{firstOf, told}
 use Rattle.decoder_shared.proofs.FeedAnswers.{answers-still}

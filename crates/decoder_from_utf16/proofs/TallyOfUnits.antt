@@ -21,7 +21,7 @@ use Rattle.utf16.specs.Units.{units}
 use Rattle.utf16.specs.Alone.{allAlone}
 use Rattle.utf16.proofs.RowsOfUnits.{units-division, whole-sure}
 use Rattle.utf16.proofs.AloneDivides.{alone-append, single, cut-alone}
-use Rattle.decoder_shared.specs.Steps.{Fits, Settles, passed, struck, talliedAs}
+use Rattle.decoder_shared.specs.Inside.Steps.{Fits, Settles, passed, struck, talliedAs}
 use Rattle.decoder_shared.proofs.TalliedWalk.{firstOf, Walked, walked-run, run-fits, walked-told, walked-end, told-nothing, told-begun}
 
 -- ---- units that stand alone

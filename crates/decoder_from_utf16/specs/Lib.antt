@@ -4,7 +4,5 @@ pub mod State
 pub mod Tests
 -- Start, feed and finish: the shared promises, of the decoder of units
 pub mod Feeding
--- The room that is enough: the most places that a feed of so many units can need
-pub mod Room
 -- What private steps promise each other
 pub mod Inside

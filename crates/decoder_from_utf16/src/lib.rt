@@ -14,14 +14,15 @@ ghost use mathlib.Core.List.{[], _∷_, _++_};
 ghost use lib.ListN.{length, take};
 ghost use Rattle.theory.specs.Reader.{cut, parts};
 ghost use Rattle.terms.specs.Told.{sizeOf, toldWritten};
+ghost use Rattle.utf8.specs.Scalar.{utf8};
 ghost use Rattle.utf16.specs.Units.{units};
 ghost use Rattle.decoder_shared.specs.Decoding.{fresh, fed};
-ghost use Rattle.decoder_shared.specs.Checks.{admitSays};
-ghost use Rattle.decoder_shared.specs.Steps as steps;
+ghost use Rattle.decoder_shared.specs.Checks.{admission, admitSays};
+ghost use Rattle.decoder_shared.specs.Room.{mostFed};
+ghost use Rattle.decoder_shared.specs.Inside.Steps as steps;
 ghost use Rattle.decoder_from_utf16.specs.Tests.{isTail, balanced, sound};
 ghost use Rattle.decoder_from_utf16.specs.State.{unitDecoding};
 ghost use Rattle.decoder_from_utf16.specs.Feeding.{Starts, Feeds, Finishes};
-ghost use Rattle.decoder_from_utf16.specs.Room.{mostFed};
 ghost use Rattle.decoder_from_utf16.specs.Inside.Tallying.{logOf, opening, keeping};
 
 mod form;
@@ -142,7 +143,7 @@ fn is_sound(state: UnitDecoder) -> bool
 
 // May a state take a call that brings so many units and lends a list of so many numbers?
 fn admit(state: UnitDecoder, more: usize, row: usize) -> Admission
-    ensures { λ r. ⌜ steps.admission r ≡ admitSays unitDecoding state more row ⌝ }
+    ensures { λ r. ⌜ admission r ≡ admitSays unitDecoding state more row ⌝ }
 {
     decoder_shared::admit(is_sound(state), state.taken, state.room, more, row)
 }
@@ -337,7 +338,7 @@ pub fn start(room: usize) -> Started
 
 // The most places that a feed of so many units can need, whatever is pending; finish needs no more than a feed of no units.
 pub fn most(n: usize) -> usize
-    ensures { λ r. ⌜ r ≡ mostFed n ⌝ }
+    ensures { λ r. ⌜ r ≡ mostFed utf8 n ⌝ }
 {
     if UnitDecoder::LIMIT < n {
         return crate::form::MARK * (UnitDecoder::LIMIT + 1);

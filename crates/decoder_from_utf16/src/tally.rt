@@ -9,7 +9,7 @@ ghost use Rattle.terms.specs.Limits.{limit};
 ghost use Rattle.terms.specs.Told.{sizeOf};
 ghost use Rattle.utf16.specs.Units.{units};
 ghost use Rattle.utf16.specs.Alone.{allAlone};
-ghost use Rattle.decoder_shared.specs.Steps.{Fits, Settles, passed, struck, talliedAs};
+ghost use Rattle.decoder_shared.specs.Inside.Steps.{Fits, Settles, passed, struck, talliedAs};
 ghost use Rattle.decoder_from_utf16.specs.Inside.Tallying.{logOf};
 
 // What is kept of the segments so far: units in whole segments and in damage, and damages.

@@ -22,7 +22,7 @@ use Rattle.terms.proofs.ToldBack.{no-zero}
 use Rattle.decoder_shared.specs.Decoding.{Decoding, numbers, opened, fed, closed}
 use Rattle.decoder_shared.specs.Checks.{admitSays}
 use Rattle.decoder_shared.specs.Calls.{Feeds}
-use Rattle.decoder_shared.specs.Steps.{counted, tallied, talliedAs, Fits, Rests, behind, Answers}
+use Rattle.decoder_shared.specs.Inside.Steps.{counted, tallied, talliedAs, Fits, Rests, behind, Answers}
 use Rattle.decoder_shared.proofs.ChecksInOrder.{admits, admitted-then, refused-so}
 use Rattle.decoder_shared.proofs.TalliedWalk.{tallied-whole, tallied-damaged, tallied-count}
 

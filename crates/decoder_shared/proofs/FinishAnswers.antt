@@ -20,7 +20,7 @@ use Rattle.terms.proofs.ToldBack.{no-zero}
 use Rattle.decoder_shared.specs.Decoding.{Decoding, act, fresh, ended}
 use Rattle.decoder_shared.specs.Checks.{admitSays}
 use Rattle.decoder_shared.specs.Calls.{finishSays, Finishes}
-use Rattle.decoder_shared.specs.Steps.{counted, struck}
+use Rattle.decoder_shared.specs.Inside.Steps.{counted, struck}
 use Rattle.decoder_shared.proofs.ChecksInOrder.{Admits, admits, admitted-then, refused-so}
 
 damage-is : (k : Kind) → isDamage k ≡ true → k ≡ damage

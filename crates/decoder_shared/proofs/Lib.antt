@@ -20,3 +20,5 @@ pub mod FormsJoined
 pub mod ToldBack
 -- A text of one segment or none, and what is settled of a text behind it: they are tallied, converted as two texts, and the feed answers
 pub mod SettledText
+-- The room that is enough for a feed and for finish, over any decoder
+pub mod Enough

@@ -18,7 +18,7 @@ use Rattle.terms.specs.declared.Written.{Written}
 use Rattle.terms.specs.declared.Written.the-variants.{Count, Refused}
 use Rattle.terms.proofs.WalkBySegments.{part-is}
 use Rattle.decoder_shared.specs.Decoding.{Decoding}
-use Rattle.decoder_shared.specs.Steps.{counted, tallied, talliedAs, Fits, Settles, Rests, behind, Answers}
+use Rattle.decoder_shared.specs.Inside.Steps.{counted, tallied, talliedAs, Fits, Settles, Rests, behind, Answers}
 use Rattle.decoder_shared.proofs.TalliedWalk.{tallied-fits}
 use Rattle.decoder_shared.proofs.FeedAnswers.{rests-fits, rests-dry, dry-list, answers-refused, answers-granted}
 use Rattle.decoder_shared.proofs.SettledIsCut.{Cuttable, settled-cut}

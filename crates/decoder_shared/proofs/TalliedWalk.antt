@@ -19,7 +19,7 @@ use Rattle.terms.specs.declared.First.{First}
 use Rattle.terms.specs.declared.First.the-variants.{Nothing, Whole, Damage, Begun}
 use Rattle.terms.proofs.WalkBySegments.{Seen, seen, nothing-seen}
 use Rattle.decoder_shared.specs.Decoding.{numbers}
-use Rattle.decoder_shared.specs.Steps.{tallied, Fits, passed, struck, talliedAs, Settles}
+use Rattle.decoder_shared.specs.Inside.Steps.{tallied, Fits, passed, struck, talliedAs, Settles}
 
 -- nothing is written for a segment
 abbrev unwritten : Segment Kind → List ℕ

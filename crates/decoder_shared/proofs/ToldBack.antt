@@ -6,7 +6,7 @@ use mathlib.Core.List.{List}
 use lib.ListN.{getD}
 use lib.Dec.{eqb}
 use Rattle.terms.proofs.ToldBack.{by-back, backRefusal, refusal-back, no-zero}
-use Rattle.decoder_shared.specs.Steps.{admission}
+use Rattle.decoder_shared.specs.Checks.{admission}
 use Rattle.decoder_shared.specs.declared.Admission.{Admission}
 use Rattle.decoder_shared.specs.declared.Admission.the-variants.{Granted, Refused}
 

@@ -6,7 +6,9 @@ pub mod Checks
 pub mod Calls
 -- A text that one caller feeds in pieces: the calls one after another, by what they promise, and what they give together
 pub mod Course
+-- The room that is enough: the most places that a feed of so many elements can need
+pub mod Room
 -- An entry in the list of damages
 pub mod Entry
--- What the steps of a feed promise each other, where what is settled is converted as a text and its damages are then entered
-pub mod Steps
+-- What private steps promise each other
+pub mod Inside

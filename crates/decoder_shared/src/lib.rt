@@ -3,7 +3,7 @@ use terms::Decoder;
 use terms::Refusal;
 ghost use mathlib.Core.Path.{_≡_};
 ghost use Rattle.decoder_shared.specs.Entry.{entered};
-ghost use Rattle.decoder_shared.specs.Steps.{admission, checks};
+ghost use Rattle.decoder_shared.specs.Checks.{admission, checks};
 
 // May a state take a call?
 pub enum Admission {

@@ -23,7 +23,7 @@ use Rattle.decoder.proofs.TestsAsFacts.{Sound, sound-is}
 use Rattle.decoder_shared.specs.Decoding.{fresh}
 use Rattle.decoder_shared.specs.Checks.{admitSays}
 use Rattle.decoder_shared.specs.Calls.{Finishes}
-use Rattle.decoder_shared.specs.Steps.{Fits, struck}
+use Rattle.decoder_shared.specs.Inside.Steps.{Fits, struck}
 use Rattle.decoder_shared.proofs.ChecksInOrder.{Admits, admits}
 use Rattle.decoder_shared.proofs.FinishAnswers as finish
 use Rattle.decoder_to_utf16.specs.State.{toUnits}

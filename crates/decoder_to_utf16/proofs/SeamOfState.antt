@@ -13,23 +13,23 @@ use Rattle.terms.specs.Told.{toldFirst, firstSays}
 use Rattle.terms.specs.declared.Decoder.{Decoder}
 use Rattle.terms.specs.declared.First.{First}
 use Rattle.utf8.specs.Bytes.{bytes}
-use Rattle.utf8_pending.specs.Tail.{firstSettled}
+use Rattle.utf8_pending.specs.Tail.{firstSettled, seamed}
+use Rattle.utf8_pending.proofs.SeamIsFirst.{read-still, read-inside}
 use Rattle.decoder.specs.Tests.{left}
 use Rattle.decoder.proofs.SeamSettled.{left-long}
 use Rattle.decoder.proofs.TestsAsFacts.{Sound, sound-is}
 use Rattle.decoder_shared.specs.Decoding.{fed}
 use Rattle.decoder_shared.specs.Checks.{admitSays}
-use Rattle.decoder_shared.specs.Steps.{Rests, behind}
+use Rattle.decoder_shared.specs.Inside.Steps.{Rests, behind}
 use Rattle.decoder_shared.proofs.ChecksInOrder.{Admits, admits}
 use Rattle.decoder_to_utf16.specs.State.{toUnits}
-use Rattle.decoder_to_utf16.specs.Inside.Tallying.{seamed}
 use Rattle.decoder_to_utf16.proofs.SeamDivides as divides
 
 -- the stream of a state, from the parts of its text
 abbrev streamed : Decoder → List ℕ → Parts Kind → State Log
 streamed d list p = behind toUnits d (p .done) (p .left) list
 
-module _ (d : Decoder) (piece list seam : List ℕ) (g : admitSays toUnits d (length piece) (length list) ≡ 0 ∷ []) (seam-is : seam ≡ seamed d piece)
+module _ (d : Decoder) (piece list seam : List ℕ) (g : admitSays toUnits d (length piece) (length list) ≡ 0 ∷ []) (seam-is : seam ≡ seamed (left d) piece)
     (three : length (d .held) ≡ mostPending) where
   granted : Admits toUnits d (length piece) (length list)
   granted = admits toUnits d (length piece) (length list) (sym g)
@@ -48,7 +48,7 @@ module _ (d : Decoder) (piece list seam : List ℕ) (g : admitSays toUnits d (le
 
   -- nothing is settled yet: all of the seam is pending
   pub join-still : taken < d .pending → fed toUnits d piece list ≡ behind toUnits d [] seam list
-  join-still h = ap (streamed d list) (divides.seam-still (left d) piece seam (d .pending) long (passes .tail .begins) seam-is h)
+  join-still h = ap (streamed d list) (read-still (left d) piece seam (d .pending) (passes .tail .begins) long seam-is h)
 
   -- or the segment at the seam is, and the piece goes on behind it
   module _ (h : d .pending ≤ taken) where
@@ -56,17 +56,17 @@ module _ (d : Decoder) (piece list seam : List ℕ) (g : admitSays toUnits d (le
     rest = drop (taken - d .pending) piece
 
     pub join-inside : taken - d .pending ≤ length piece
-    join-inside = divides.rest-inside (left d) piece seam (d .pending) long (passes .tail .begins) seam-is h
+    join-inside = read-inside (left d) piece seam (d .pending) (passes .tail .begins) long seam-is h
 
     pub join-behind : fed toUnits d piece list ≡ behind toUnits d (cut bytes (take taken seam) ++ parts bytes rest .done) (parts bytes rest .left) list
-    join-behind = ap (streamed d list) (divides.seam-divides (left d) piece seam (d .pending) long (passes .tail .begins) seam-is h)
+    join-behind = ap (streamed d list) (divides.seam-divides (left d) piece seam (d .pending) (passes .tail .begins) long seam-is h)
 
     pub join-rests : (seg : First) → toldFirst seg ≡ firstSays bytes seam → Rests toUnits d seg (take taken seam) rest list
     join-rests seg e =
         let b = passes .numbers in
         record {
-          tells = divides.seam-tells (left d) piece seam (d .pending) long (passes .tail .begins) seam-is h seg e;
-          size-is = divides.seam-size (left d) piece seam (d .pending) long (passes .tail .begins) seam-is h seg e;
+          tells = divides.seam-tells (left d) piece seam (d .pending) (passes .tail .begins) long seam-is h seg e;
+          size-is = divides.seam-size (left d) piece seam (d .pending) (passes .tail .begins) long seam-is h seg e;
           sums = omega (
             arith,
             h,
@@ -74,7 +74,7 @@ module _ (d : Decoder) (piece list seam : List ℕ) (g : admitSays toUnits d (le
             granted .within,
             join-inside,
             length-drop (taken - d .pending) piece,
-            divides.head-long (left d) piece seam (d .pending) long (passes .tail .begins) seam-is,
+            divides.head-long (left d) piece seam (d .pending) (passes .tail .begins) long seam-is,
           );
           counts = b .low;
           row = granted .list;

@@ -2,7 +2,5 @@
 pub mod State
 -- Feed and finish: the shared promises, of the decoder of bytes into units. Start is the byte decoder's
 pub mod Feeding
--- The room that is enough: the most places that a feed of so many bytes can need
-pub mod Room
 -- What private steps promise each other
 pub mod Inside

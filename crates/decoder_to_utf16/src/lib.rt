@@ -5,7 +5,6 @@ use decoder_shared::Admission;
 use terms::First;
 use terms::Refusal;
 use terms::Written;
-use utf8_pending::Seam;
 ghost use mathlib.Core.Path.{_≡_};
 ghost use Prim.Native.Nat.{_+_};
 ghost use mathlib.Core.List.{[], _∷_, _++_};
@@ -13,13 +12,16 @@ ghost use lib.ListN.{length};
 ghost use Rattle.theory.specs.Reader.{cut, parts};
 ghost use Rattle.terms.specs.Told.{sizeOf, toldWritten};
 ghost use Rattle.utf8.specs.Bytes.{bytes};
+ghost use Rattle.utf16.specs.Scalar.{utf16};
+ghost use Rattle.utf8_pending.specs.Tail.{seamed};
+ghost use Rattle.decoder.specs.Tests.{left};
 ghost use Rattle.decoder_shared.specs.Decoding.{fed};
-ghost use Rattle.decoder_shared.specs.Checks.{admitSays};
-ghost use Rattle.decoder_shared.specs.Steps as steps;
+ghost use Rattle.decoder_shared.specs.Checks.{admission, admitSays};
+ghost use Rattle.decoder_shared.specs.Room.{mostFed};
+ghost use Rattle.decoder_shared.specs.Inside.Steps as steps;
 ghost use Rattle.decoder_to_utf16.specs.State.{toUnits};
 ghost use Rattle.decoder_to_utf16.specs.Feeding.{Feeds, Finishes};
-ghost use Rattle.decoder_to_utf16.specs.Room.{mostFed};
-ghost use Rattle.decoder_to_utf16.specs.Inside.Tallying.{logOf, opening, keeping, seamed, seamWith};
+ghost use Rattle.decoder_to_utf16.specs.Inside.Tallying.{logOf, opening, keeping};
 
 mod form;
 mod tally;
@@ -35,7 +37,7 @@ pub use terms::Decoder;
 
 // May a state take a call that brings so many bytes and lends a list of so many numbers?
 fn admit(state: Decoder, more: usize, row: usize) -> Admission
-    ensures { λ r. ⌜ steps.admission r ≡ admitSays toUnits state more row ⌝ }
+    ensures { λ r. ⌜ admission r ≡ admitSays toUnits state more row ⌝ }
 {
     decoder_shared::admit(decoder::is_sound(state), state.taken, state.room, more, row)
 }
@@ -134,7 +136,7 @@ fn feed_rest(
 // A piece is fed behind what is pending: their seam tells whether anything is settled yet. An empty one tells nothing, and the piece goes
 // on from its start.
 fn join(seam: &[u8], state: Decoder, piece: &[u8], out: &mut [u16], list: &mut [u32]) -> Fed
-    requires { ⌜ (admitSays toUnits state (length (now piece)) (length (now list)) ≡ 0 ∷ []) × (now seam ≡ seamed state (now piece)) ⌝ }
+    requires { ⌜ (admitSays toUnits state (length (now piece)) (length (now list)) ≡ 0 ∷ []) × (now seam ≡ seamed (left state) (now piece)) ⌝ }
     ensures { λ r. ⌜ steps.Answers toUnits state (state .taken + length (now (piece .entry)))
         (fed toUnits state (now (piece .entry)) (now (list .entry)))
         (now (out .entry)) (now (list .entry)) (now (out .exit)) (now (list .exit)) (toldWritten (r .answer)) (r .state) ⌝ }
@@ -152,20 +154,6 @@ fn join(seam: &[u8], state: Decoder, piece: &[u8], out: &mut [u16], list: &mut [
     feed_rest(seg, &seam[..size], &piece[from..], state, taken, out, list)
 }
 
-// The seam of what is pending and a piece. Where nothing is pending it is empty, and the piece is read where it lies.
-fn seam_with(state: Decoder, piece: &[u8]) -> Seam
-    ensures { λ r. ⌜ r ≡ seamWith state (now (piece .entry)) ⌝ }
-{
-    if state.pending == 0 {
-        return Seam {
-            bytes: [0; 4],
-            size: 0,
-        };
-    }
-    let held = state.held;
-    utf8_pending::seam_of(held, state.pending, piece)
-}
-
 // A state that may take a piece takes it.
 fn take(state: Decoder, piece: &[u8], out: &mut [u16], list: &mut [u32]) -> Fed
     requires { ⌜ admitSays toUnits state (length (now piece)) (length (now list)) ≡ 0 ∷ [] ⌝ }
@@ -173,7 +161,8 @@ fn take(state: Decoder, piece: &[u8], out: &mut [u16], list: &mut [u32]) -> Fed
         (fed toUnits state (now (piece .entry)) (now (list .entry)))
         (now (out .entry)) (now (list .entry)) (now (out .exit)) (now (list .exit)) (toldWritten (r .answer)) (r .state) ⌝ }
 {
-    let seam = seam_with(state, piece);
+    let held = state.held;
+    let seam = utf8_pending::seam_with(held, state.pending, piece);
     let bytes = seam.bytes;
     let n = seam.size;
     join(&bytes[..n], state, piece, out, list)
@@ -221,7 +210,7 @@ fn end(state: Decoder, out: &mut [u16], list: &mut [u32]) -> Finished
 
 // The most places that a feed of so many bytes can need, whatever is pending; finish needs no more than a feed of no bytes.
 pub fn most(n: usize) -> usize
-    ensures { λ r. ⌜ r ≡ mostFed n ⌝ }
+    ensures { λ r. ⌜ r ≡ mostFed utf16 n ⌝ }
 {
     if Decoder::LIMIT < n {
         return crate::form::MARK * (Decoder::LIMIT + 1);

@@ -8,7 +8,7 @@ ghost use lib.ListN.{length};
 ghost use Rattle.terms.specs.Limits.{limit};
 ghost use Rattle.terms.specs.Told.{sizeOf};
 ghost use Rattle.utf8.specs.Bytes.{bytes};
-ghost use Rattle.decoder_shared.specs.Steps.{Fits, Settles, passed, struck, talliedAs};
+ghost use Rattle.decoder_shared.specs.Inside.Steps.{Fits, Settles, passed, struck, talliedAs};
 ghost use Rattle.decoder_to_utf16.specs.Inside.Tallying.{logOf};
 
 // What is kept of the segments so far: bytes in whole segments and in damage, and damages.

@@ -15,7 +15,7 @@ use Rattle.theory.proofs.Cases.{both}
 use Rattle.terms.specs.Limits.{mostPending, unheld}
 use Rattle.utf8.specs.Bytes.{bytes}
 use Rattle.utf8.specs.Pending.{zeros, padded}
-use Rattle.utf8_pending.specs.Tail.{isTail, four}
+use Rattle.utf8_pending.specs.Tail.{isTail, four, placed, seamed}
 
 -- ---- the test
 
@@ -109,12 +109,19 @@ held-zeros (a ∷ b ∷ []) h = refl
 held-zeros (a ∷ b ∷ c ∷ []) h = refl
 held-zeros (a ∷ b ∷ c ∷ d ∷ run) h = absurd (omega arith)
 
-pub seam-found : (tail piece : List ℕ)
-    → let run : List ℕ = four tail piece in
-    let places : List ℕ = take 4 (run ++ 0 ∷ 0 ∷ 0 ∷ 0 ∷ []) in
-    (length run ≤ length places) × (take (length run) places ≡ run)
-seam-found tail piece =
-    let run : List ℕ = four tail piece in
+-- a seam is found again in its places
+placed-found : (run : List ℕ) → length run ≤ 4 → (placed run .size ≤ length (placed run .bytes)) × (take (placed run .size) (placed run .bytes) ≡ run)
+placed-found run h =
     let zs : List ℕ = 0 ∷ 0 ∷ 0 ∷ 0 ∷ [] in
-    let h : length run ≤ 4 = omega (arith, length-take 4 (tail ++ piece)) in
     (omega (arith, length-take 4 (run ++ zs), length-append run zs), take-take (length run) 4 (run ++ zs) h ∙ take-at run zs (length run) refl)
+
+pub seam-found : (tail piece : List ℕ)
+    → let s = placed (four tail piece) in
+    (s .size ≤ length (s .bytes)) × (take (s .size) (s .bytes) ≡ four tail piece)
+seam-found tail piece = placed-found (four tail piece) (omega (arith, length-take 4 (tail ++ piece)))
+
+pub seamed-found : (tail piece : List ℕ)
+    → let s = placed (seamed tail piece) in
+    (s .size ≤ length (s .bytes)) × (take (s .size) (s .bytes) ≡ seamed tail piece)
+seamed-found [] piece = placed-found [] (omega arith)
+seamed-found (x ∷ xs) piece = seam-found (x ∷ xs) piece

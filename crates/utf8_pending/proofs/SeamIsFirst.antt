@@ -1,11 +1,12 @@
 -- The seam of what is pending and a piece: its first segment is that of both, and reaches over all that is pending.
 use mathlib.Core.Path.{_≡_, refl, sym, ap, _∙_}
-use Prim.Native.Nat.{ℕ, _+_, _-_, _≤_}
+use Prim.Native.Nat.{ℕ, _+_, _-_, _≤_, _<_}
 use mathlib.Core.Bool.{true, false}
 use mathlib.Core.List.{List, [], _∷_, _++_}
 use lib.ListN.{length, take, drop, length-append, length-take, take-append-drop}
 use lib.Seq.{take-all, take-take, drop-append-add}
-use borrow.Author.Tests.{not-true}
+use lib.Dec.{eqb}
+use borrow.Author.Tests.{not-true, eqb-true, eqb-false}
 use native.Mathlib.Omega.{arith}
 use Rattle.theory.specs.Reader.{Look, parts, pending}
 use Rattle.theory.specs.Reader as reader
@@ -16,8 +17,8 @@ use Rattle.theory.proofs.Divisions.{before, pending-short}
 use Rattle.terms.specs.Limits.{mostPending}
 use Rattle.utf8.specs.Bytes.{bytes}
 use Rattle.utf8.proofs.RowsOfBytes.{bytes-division, bytes-hold, bytes-top}
-use Rattle.utf8_pending.specs.Tail.{firstSettled, four}
-use Rattle.utf8_pending.proofs.SettledFirst.{settled-sure, settled-open, one-size, settled-parts, settled-inside, settled-none, pending-none}
+use Rattle.utf8_pending.specs.Tail.{firstSettled, four, seamed}
+use Rattle.utf8_pending.proofs.SettledFirst.{settled-sure, settled-open, settled-nil, one-size, settled-parts, settled-inside, settled-none, pending-none}
 
 -- ---- the first segment of a text is that of its first four bytes
 
@@ -93,3 +94,53 @@ module _ (tail piece : List ℕ) (begins : pending bytes tail ≡ true) where
     seam-behind =
         settled-parts (tail ++ piece)
         ∙ rw (drop-over tail piece (total size (firstSettled (tail ++ piece))) over, four-settled (tail ++ piece))
+
+-- ---- THE SEAM AS IT IS READ: empty where nothing is pending
+
+no-length : (xs : List ℕ) → length xs ≡ 0 → xs ≡ []
+no-length [] e = refl
+no-length (x ∷ xs) e = absurd (omega arith)
+
+pub seamed-empty : (tail piece : List ℕ) → length tail ≡ 0 → seamed tail piece ≡ []
+seamed-empty [] piece z = refl
+seamed-empty (x ∷ xs) piece z = absurd (omega arith)
+
+pub seamed-some : (tail piece : List ℕ) → (length tail ≡ 0 → ⊥) → seamed tail piece ≡ four tail piece
+seamed-some [] piece p = absurd (p refl)
+seamed-some (x ∷ xs) piece p = refl
+
+-- of n pending bytes
+module _ (tail piece seam : List ℕ) (n : ℕ) (begins : pending bytes tail ≡ true) (long : length tail ≡ n) (seam-is : seam ≡ seamed tail piece) where
+  abbrev reach : ℕ
+  reach = total size (firstSettled seam)
+
+  filled : (n ≡ 0 → ⊥) → seam ≡ four tail piece
+  filled p = seam-is ∙ seamed-some tail piece (λ z. p (sym long ∙ z))
+
+  empty : n ≡ 0 → (seam ≡ []) × (tail ≡ [])
+  empty z = (seam-is ∙ seamed-empty tail piece (long ∙ z), no-length tail (long ∙ z))
+
+  -- it does not reach over them: nothing is settled, and all of it is pending still
+  pub read-still : reach < n → parts bytes (tail ++ piece) ≡ record { done = []; left = seam }
+  read-still h =
+      let e = filled (λ z. absurd (omega arith)) in
+      split (eqb reach 0)
+      (λ t. rw e (seam-pending tail piece begins (rw e at (eqb-true reach 0 t))))
+      (λ t.
+      let o : length tail ≤ reach = rw e (seam-over tail piece begins (rw e at (eqb-false reach 0 t))) in
+      absurd (omega (arith, o, long)))
+
+  -- it does, and the piece goes on behind it
+  module _ (h : n ≤ reach) where
+    some : (n ≡ 0 → ⊥) → total size (firstSettled (four tail piece)) ≡ 0 → ⊥
+    some p z = p (omega (arith, h, ap (λ (xs : List ℕ). total size (firstSettled xs)) (filled p), z))
+
+    pub read-inside : reach - n ≤ length piece
+    read-inside = split (eqb n 0)
+        (λ t. rw (empty (eqb-true n 0 t) .0, settled-nil) (omega arith))
+        (λ t. let p = eqb-false n 0 t in rw (filled p, ← long) (seam-inside tail piece begins (some p)))
+
+    pub read-behind : parts bytes (tail ++ piece) ≡ before (firstSettled seam) (parts bytes (drop (reach - n) piece))
+    read-behind = split (eqb n 0)
+        (λ t. let z = eqb-true n 0 t in rw (empty z .1, empty z .0, z, settled-nil))
+        (λ t. let p = eqb-false n 0 t in rw (filled p, ← long) (seam-behind tail piece begins (some p)))

@@ -29,12 +29,21 @@ settledSize (Begun n) = 0
 abbrev pub isTail : List ℕ → ℕ → Bool
 isTail held n = leb n mostPending && pending bytes (take n held) && zeros (drop n held)
 
--- THE SEAM: the first four bytes of what is pending and a piece behind it, or all of them, in four places; unused ones are 0
+-- THE SEAM: the first four bytes of what is pending and a piece behind it, or all of them
 abbrev pub four : List ℕ → List ℕ → List ℕ
 four tail piece = take 4 (tail ++ piece)
 
+-- it is empty where nothing is pending, as the piece is then read where it lies
+abbrev pub seamed : List ℕ → List ℕ → List ℕ
+seamed [] piece = []
+seamed (x ∷ xs) piece = four (x ∷ xs) piece
+
+-- up to four bytes in four places; unused ones are 0
+abbrev pub placed : List ℕ → Seam
+placed run = record { bytes = take 4 (run ++ 0 ∷ 0 ∷ 0 ∷ 0 ∷ []); size = length run }
+
 abbrev pub seamOf : List ℕ → ℕ → List ℕ → Seam
-seamOf held n piece = record {
-  bytes = take 4 (four (take n held) piece ++ 0 ∷ 0 ∷ 0 ∷ 0 ∷ []);
-  size = length (four (take n held) piece);
-}
+seamOf held n piece = placed (four (take n held) piece)
+
+abbrev pub seamWith : List ℕ → ℕ → List ℕ → Seam
+seamWith held n piece = placed (seamed (take n held) piece)

@@ -7,7 +7,7 @@ ghost use Prim.Native.Nat.{min, _≤_};
 ghost use lib.ListN.{getD, take};
 ghost use Rattle.terms.specs.Limits.{mostPending};
 ghost use Rattle.utf8.specs.Pending.{zeros, padded};
-ghost use Rattle.utf8_pending.specs.Tail.{settledSize, isTail, seamOf};
+ghost use Rattle.utf8_pending.specs.Tail.{settledSize, isTail, seamOf, seamWith};
 
 // The first four bytes of what is pending and a piece behind it, unused ones 0, and how many there are.
 pub struct Seam {
@@ -103,6 +103,19 @@ pub fn seam_of(held: [u8; Decoder::PENDING], n: usize, piece: &[u8]) -> Seam
         ],
         size: k + least(4 - k, piece.len()),
     }
+}
+
+// The seam as it is read. Where nothing is pending it is empty, and the piece is read where it lies.
+pub fn seam_with(held: [u8; Decoder::PENDING], n: usize, piece: &[u8]) -> Seam
+    ensures { λ r. ⌜ r ≡ seamWith held n (now (piece .entry)) ⌝ }
+{
+    if n == 0 {
+        return Seam {
+            bytes: [0; 4],
+            size: 0,
+        };
+    }
+    seam_of(held, n, piece)
 }
 
 // The first three bytes of what is left, 0 for each one missing.

@@ -1,10 +1,8 @@
 -- What the decoder's steps promise each other: a piece is fed behind what is pending, and the text ends.
 use mathlib.Core.Path.{_≡_}
 use Prim.Native.Nat.{ℕ, _+_, _*_, _≤_}
-use mathlib.Core.Bool.{cond}
-use mathlib.Core.List.{List, [], _∷_, _++_}
+use mathlib.Core.List.{List, _++_}
 use lib.ListN.{length}
-use lib.Dec.{eqb}
 use Rattle.theory.specs.Reader.{parts}
 use Rattle.theory.specs.Stream.{State}
 use Rattle.theory.specs.Tally.{total, size, Log}
@@ -13,11 +11,10 @@ use Rattle.terms.specs.Told.{toldFirst, firstSays, toldWritten}
 use Rattle.terms.specs.declared.Decoder.{Decoder}
 use Rattle.terms.specs.declared.First.{First}
 use Rattle.utf8.specs.Bytes.{bytes}
-use Rattle.utf8_pending.specs.Tail.{firstSettled, four, seamOf}
-use Rattle.utf8_pending.specs.declared.Seam.{Seam}
-use Rattle.decoder_shared.specs.Steps as steps
+use Rattle.utf8_pending.specs.Tail.{firstSettled}
+use Rattle.decoder_shared.specs.Inside.Steps as steps
 use Rattle.decoder.specs.declared.tally.Tally.{Tally}
-use Rattle.decoder.specs.State.{left, byteDecoding}
+use Rattle.decoder.specs.State.{byteDecoding}
 use Rattle.decoder.specs.declared.Fed.{Fed}
 
 -- the tally that a state begins with, and the state that keeps a tally and what is left
@@ -33,13 +30,6 @@ keeping rest t taken room = byteDecoding .state (record {
   count = t .count;
   room = room;
 })
-
--- the seam of what is pending and a piece, and as it is handed on: nothing where nothing is pending
-abbrev pub seamed : Decoder → List ℕ → List ℕ
-seamed d piece = cond (eqb (d .pending) 0) [] (four (left d) piece)
-
-abbrev pub seamWith : Decoder → List ℕ → Seam
-seamWith d piece = cond (eqb (d .pending) 0) (record { bytes = 0 ∷ 0 ∷ 0 ∷ 0 ∷ []; size = 0 }) (seamOf (d .held) (d .pending) piece)
 
 -- the segment that a seam begins with, as the reader told of it, and a text behind it, which a state may take
 pub record Rests (d : Decoder) (seg : First) (seam rest list : List ℕ) : Type 0 where

@@ -3,8 +3,7 @@ use mathlib.Core.Path.{_≡_, sym, ap, _∙_}
 use mathlib.Core.List.{[], _∷_}
 use lib.ListN.{length}
 use Rattle.terms.specs.Told.{toldWritten}
-use Rattle.decoder_shared.specs.Checks.{admitSays}
-use Rattle.decoder_shared.specs.Steps.{admission}
+use Rattle.decoder_shared.specs.Checks.{admission, admitSays}
 use Rattle.decoder_shared.proofs.FeedAnswers.{feed-refused, feed-granted}
 use Rattle.decoder_from_utf16.specs.State.{unitDecoding}
 use borrow.Author.Needs.{needs}

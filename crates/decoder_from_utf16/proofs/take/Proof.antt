@@ -6,7 +6,7 @@ use native.Mathlib.Omega.{arith}
 use Rattle.theory.specs.Stream.{State}
 use Rattle.theory.specs.Tally.{Log}
 use Rattle.terms.specs.Told.{toldWritten}
-use Rattle.decoder_shared.specs.Steps.{Answers}
+use Rattle.decoder_shared.specs.Inside.Steps.{Answers}
 use Rattle.decoder_shared.proofs.ChecksInOrder.{Admits, admits}
 use Rattle.decoder_from_utf16.specs.State.{unitDecoding}
 use Rattle.decoder_from_utf16.proofs.TestsAsFacts.{Sound, sound-is}

@@ -2,7 +2,7 @@
 use Prim.Native.Nat.{ℕ}
 use mathlib.Core.List.{List}
 use Rattle.theory.specs.Tally.{Log}
-use Rattle.decoder_shared.specs.Steps.{counted}
+use Rattle.decoder_shared.specs.Inside.Steps.{counted}
 use Rattle.decoder_from_utf16.specs.State.{unitDecoding}
 use Rattle.decoder_from_utf16.specs.declared.tally.Tally.{Tally}
 use Rattle.decoder_from_utf16.specs.declared.UnitDecoder.{UnitDecoder}

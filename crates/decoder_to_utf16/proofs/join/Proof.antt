@@ -12,7 +12,7 @@ use Rattle.terms.proofs.WalkBySegments.{part-is}
 use Rattle.terms.specs.declared.Written.the-variants.{Count}
 use Rattle.utf8_pending.specs.Tail.{firstSettled}
 use Rattle.utf8_pending.proofs.SettledFirst.{settled-inside, told-size}
-use Rattle.decoder_shared.specs.Steps.{Answers}
+use Rattle.decoder_shared.specs.Inside.Steps.{Answers}
 use Rattle.decoder_shared.proofs.FeedAnswers.{answers-still}
 use Rattle.decoder_to_utf16.specs.State.{toUnits}
 use Rattle.decoder_to_utf16.proofs.SeamOfState.{join-within, join-still, join-inside, join-behind, join-rests}

@@ -3,7 +3,7 @@ use mathlib.Core.Path.{_≡_, sym, subst}
 use lib.ListN.{length}
 use Rattle.theory.specs.Tally.{Log}
 use Rattle.utf8.specs.Bytes.{bytes}
-use Rattle.decoder_shared.specs.Steps.{Fits, talliedAs, Settles}
+use Rattle.decoder_shared.specs.Inside.Steps.{Fits, talliedAs, Settles}
 use Rattle.decoder_to_utf16.specs.Inside.Tallying.{logOf, opening}
 use borrow.Author.Needs.{needs}
 use Rattle.decoder_to_utf16.proofs.tally_both.Statement.{statement}

@@ -7,7 +7,7 @@ use borrow.Author.Needs.{needs}
 use Rattle.theory.specs.Tally.{Log}
 use Rattle.terms.specs.Limits.{limit}
 use Rattle.utf16.proofs.RowsOfUnits.{units-division}
-use Rattle.decoder_shared.specs.Steps.{passed, struck}
+use Rattle.decoder_shared.specs.Inside.Steps.{passed, struck}
 use Rattle.decoder_shared.proofs.TalliedWalk.{Walked, walked-start}
 use Rattle.decoder_from_utf16.specs.Inside.Tallying.{logOf}
 use Rattle.decoder_from_utf16.proofs.TallyOfUnits.{run-room, run-next, Next, next-whole, next-damage, end-nothing, end-begun}

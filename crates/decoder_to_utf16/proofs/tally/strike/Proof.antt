@@ -1,7 +1,7 @@
 -- `tally::strike` meets its contract: the entry is the log's.
 use Prim.Native.Nat.{_+_}
 use mathlib.Core.Path.{ap, _∙_}
-use Rattle.decoder_shared.specs.Steps.{counted}
+use Rattle.decoder_shared.specs.Inside.Steps.{counted}
 use Rattle.decoder_shared.proofs.EntryStored.{entered-is}
 use borrow.Author.Needs.{needs}
 use Rattle.decoder_to_utf16.proofs.tally.strike.Statement.{statement}

@@ -1,34 +1,18 @@
 -- What the steps of a feed promise each other, where what is settled is converted as a text and its damages are then entered.
 use mathlib.Core.Path.{_≡_}
 use Prim.Native.Nat.{ℕ, _+_, _*_, _≤_}
-use mathlib.Core.Bool.{Bool, cond}
 use mathlib.Core.List.{List, [], _∷_, foldl}
 use lib.ListN.{length}
-use lib.Dec.{ltb}
 use Rattle.theory.specs.Reader.{Reader, Segment, cut, parts}
 use Rattle.theory.specs.Stream.{State}
 use Rattle.theory.specs.Table.{Kind, damage}
 use Rattle.theory.specs.Tally.{total, size, store, Log}
 use Rattle.terms.specs.Limits.{limit, entryWidth}
-use Rattle.terms.specs.Checks.{tested}
-use Rattle.terms.specs.Told.{toldRefusal, sizeOf, ifGranted}
+use Rattle.terms.specs.Told.{sizeOf, ifGranted}
 use Rattle.terms.specs.Writing.{roomed, outputOf}
 use Rattle.terms.specs.declared.First.{First}
 use Rattle.terms.specs.declared.First.the-variants.{Nothing, Whole, Damage, Begun}
 use Rattle.decoder_shared.specs.Decoding.{Decoding, numbers, act, opened, closed}
-use Rattle.decoder_shared.specs.declared.Admission.{Admission}
-use Rattle.decoder_shared.specs.declared.Admission.the-variants.{Granted, Refused}
-
--- ---- the checks
-
--- what the checks before a call tell
-abbrev pub admission : Admission → List ℕ
-admission Granted = 0 ∷ []
-admission (Refused r) = toldRefusal r
-
--- refusal 8, 2, 7 in this order, of a state that passes its tests or not, has taken so many elements and has such a room
-abbrev pub checks : Bool → ℕ → ℕ → ℕ → ℕ → List ℕ
-checks sound taken room more row = tested sound taken more (cond (ltb row (entryWidth * room)) (7 ∷ []) (0 ∷ []))
 
 -- ---- the tally
 
