@@ -36,8 +36,5 @@ Feeds d piece out list out′ list′ r = calls.Feeds byteDecoding d piece out l
 
 -- ---- FINISH: pending bytes are one damage
 
-abbrev pub finishSays : Decoder → List ℕ → List ℕ → List ℕ
-finishSays = calls.finishSays byteDecoding
-
 abbrev pub Finishes : Decoder → List ℕ → List ℕ → List ℕ → List ℕ → Finished → Type 0
 Finishes d out list out′ list′ r = calls.Finishes byteDecoding d out list out′ list′ (toldTotal (r .answer)) (r .state)

@@ -1,5 +1,4 @@
--- THE CUTTING DOES NOT MATTER: a text of units that is fed in any pieces, with refused calls between them, and finished, gives what
--- conversion of the whole text writes, its first entries and its totals; and after every call the state passes its tests.
+-- The cutting of a text of units does not matter, and the state always passes its tests.
 use mathlib.Core.Path.{_≡_}
 use Prim.Native.Nat.{ℕ, _≤_}
 use mathlib.Core.Bool.{true}
@@ -13,22 +12,23 @@ use Rattle.utf8.specs.Scalar.{utf8}
 use Rattle.utf16.specs.Scalar.{utf16}
 use Rattle.decoder_shared.specs.Calls.{Finishes}
 use Rattle.decoder_shared.specs.Course.{Call, fedAll, Holds, FedAsWhole}
-use Rattle.decoder_shared.proofs.AnyCutting as shared
+use Rattle.decoder_shared.proofs.AnyCutting as any
 use Rattle.decoder_from_utf16.specs.State.{unitDecoding}
 use Rattle.decoder_from_utf16.specs.declared.UnitDecoder.{UnitDecoder}
-use Rattle.decoder_from_utf16.proofs.LawfulUnits.{lawful}
+use Rattle.decoder_from_utf16.proofs.UnitsLawful.{units-lawful}
 
-pub fed-as-whole : FedAsWhole unitDecoding
-fed-as-whole = shared.fed-as-whole unitDecoding lawful
-
--- what was written, call by call, is the whole text in UTF-8
-pub written-as-whole : (room : ℕ) (row : List ℕ) (calls : List Call) (out out′ list′ said : List ℕ) (next : UnitDecoder)
-    → let r = fedAll unitDecoding room row calls in
-    Finishes unitDecoding (r .caller .state) out (r .caller .list) out′ list′ said next
-    → isGranted said ≡ true
-    → r .caller .written ++ take (getD said 1 0) out′ ≡ converted utf16 utf8 (join (r .pieces))
-written-as-whole room row calls out out′ list′ said next f g = fed-as-whole room row calls out out′ list′ said next f g .output
-
-pub holds : (room : ℕ) → room ≤ mostRoom → (row : List ℕ) (calls : List Call)
+-- AFTER EVERY CALL the state is the one of the joined text, and passes its tests
+pub course-holds : (room : ℕ) (row : List ℕ) → room ≤ mostRoom → (calls : List Call)
     → let r = fedAll unitDecoding room row calls in Holds unitDecoding room row (join (r .pieces)) (r .caller)
-holds room h row calls = shared.course-holds unitDecoding lawful room row h calls
+course-holds = any.course-holds unitDecoding units-lawful
+
+-- AND AT THE END there are the first entries and the totals of the joined text, and what is written for it,
+pub fed-as-whole : FedAsWhole unitDecoding
+fed-as-whole = any.fed-as-whole unitDecoding units-lawful
+
+-- which is the joined text as bytes
+pub fed-converted : (room : ℕ) (row : List ℕ) (calls : List Call) (out out′ list′ said : List ℕ) (next : UnitDecoder)
+    → let r = fedAll unitDecoding room row calls in
+    Finishes unitDecoding (r .caller .state) out (r .caller .list) out′ list′ said next → isGranted said ≡ true
+    → r .caller .written ++ take (getD said 1 0) out′ ≡ converted utf16 utf8 (join (r .pieces))
+fed-converted room row calls out out′ list′ said next h g = fed-as-whole room row calls out out′ list′ said next h g .output

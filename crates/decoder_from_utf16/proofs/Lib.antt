@@ -10,8 +10,8 @@ pub mod HalfPending
 pub mod SeamOfUnits
 -- The end of a text of units: a pending half is one damage, for which U+FFFD is written
 pub mod EndOfUnits
--- The decoder of units is one: its reader divides, a state keeps what it stands for, and what balances passes the tests
-pub mod LawfulUnits
+-- The decoder of units is lawful: its reader divides, a state keeps what it stands for, and what balances passes the tests
+pub mod UnitsLawful
 -- THE CUTTING DOES NOT MATTER: a text fed in any pieces and finished gives what conversion of the whole text writes
 pub mod AnyCutting
 -- Two answers that the promise of start, feed or finish allows are equal, and they leave the same

@@ -19,8 +19,8 @@ use Rattle.decoder_shared.proofs.AnyCutting as any
 use Rattle.decoder_to_utf16.specs.State.{toUnits}
 
 -- it reads the byte decoder's texts and keeps its states
-pub units-lawful : Lawful toUnits
-units-lawful = record {
+pub to-units-lawful : Lawful toUnits
+to-units-lawful = record {
   hold = bytes-lawful .hold;
   division = bytes-lawful .division;
   short = bytes-lawful .short;
@@ -31,11 +31,11 @@ units-lawful = record {
 -- AFTER EVERY CALL the state is the one of the joined text, and passes its tests
 pub course-holds : (room : ℕ) (row : List ℕ) → room ≤ mostRoom → (calls : List Call)
     → let r = fedAll toUnits room row calls in Holds toUnits room row (join (r .pieces)) (r .caller)
-course-holds = any.course-holds toUnits units-lawful
+course-holds = any.course-holds toUnits to-units-lawful
 
 -- AND AT THE END there are the first entries and the totals of the joined text, and what is written for it,
 pub fed-as-whole : FedAsWhole toUnits
-fed-as-whole = any.fed-as-whole toUnits units-lawful
+fed-as-whole = any.fed-as-whole toUnits to-units-lawful
 
 -- which is the joined text as units
 pub fed-converted : (room : ℕ) (row : List ℕ) (calls : List Call) (out out′ list′ said : List ℕ) (next : Decoder)

@@ -6,7 +6,7 @@ use mathlib.Core.List.{List, [], _∷_, _++_, append-assoc}
 use lib.ListN.{length, getD, take, drop, length-append, length-drop, take-append-drop}
 use lib.Seq.{drop-append-le, take-all}
 use lib.Dec.{ltb}
-use borrow.Author.Tests.{eq-eqb, ne-eqb}
+use borrow.Author.Tests.{eq-eqb, ne-eqb, ltb-false}
 use native.Mathlib.Omega.{arith}
 use Rattle.theory.specs.Course.{Course, uncalled, granted, called}
 use Rattle.theory.proofs.Cases.{split}
@@ -46,6 +46,10 @@ module _ {S : Type 0} (D : Decoding S) (room : ℕ) {said : List ℕ} {next : S}
     -- the state that a start gives is the fresh one of its room
     pub ready-fresh : said ≡ 0 ∷ [] → next ≡ fresh D (D .stands next .room)
     ready-fresh e = start-ready e .1 ∙ ap (fresh D) (sym (room-kept e))
+
+    -- which is not over the most
+    pub ready-roomy : said ≡ 0 ∷ [] → D .stands next .room ≤ mostRoom
+    ready-roomy e = rw (room-kept e) (ltb-false mostRoom room (start-ready e .0))
 
     -- and then what it says of the feeds
     module _ (text : List ℕ) (calls : List Call) (out list : List ℕ) (v : Given) where

@@ -31,7 +31,7 @@ use Rattle.demand_feeding.specs.Feeds.{Held, Call, restOf, endOf, pieceO
 use Rattle.demand_feeding.specs.Feeds as specs
 use Rattle.demand_feeding.specs.Pieces.{formOf}
 use Rattle.demand_feeding.specs.Inside.Feeding.{fedOne}
-use Rattle.demand_feeding.proofs.CallsOnTheWay.{called-caller}
+use Rattle.demand_feeding.proofs.CallsOnTheWay.{one-granted, one-refused, called-caller}
 
 -- ---- lists
 
@@ -111,6 +111,12 @@ module _ {S : Type 0} (D : Decoding S) (text : List ℕ) (h : Held S) (c : Call)
       from-in = bring-end (c .cut) (h .from) (length text) (b .from-in);
       done-in = omega (arith, next-long, fits, b .done-in, length-drop (h .done) (h .out));
     }
+
+  -- and so does any feed, since a refused one leaves everything as it was
+  pub one-bounded : Bounded text h → Bounded text (fedOne D text h c)
+  one-bounded b = split (isGranted (saysOf D text h c))
+      (λ e. subst (Bounded text) (sym (one-granted D text h c e ∙ goes-is e b)) (next-bounded e b))
+      (λ e. subst (Bounded text) (sym (one-refused D text h c e)) b)
 
 -- ---- the decoder's calls that such feeds are
 

@@ -31,7 +31,7 @@ use Rattle.decoder.specs.Feeding.{feedSays, Feeds}
 use Rattle.decoder.specs.declared.Fed.{Fed}
 use Rattle.demand_pieces.specs.Inside.Trying.{numberOf, dueTo, Refuses}
 use Rattle.demand_pieces.specs.Inside.Trying as trying
-use Rattle.demand_pieces.proofs.GrantedExactly.{fed-form}
+use Rattle.demand_feeding.proofs.GrantedExactly.{fed-form}
 
 abbrev head : List ℕ → ℕ
 head says = getD says 0 0
@@ -152,7 +152,7 @@ settles-some : (d : Decoder) (piece list : List ℕ) → mostPending < length pi
 settles-some d piece list h =
     let text : List ℕ = left d ++ piece in
     let m : 0 < total size (parts bytes text .done) = omega (arith, h, parts-size bytes text, left-short text, length-append (left d) piece) in
-    rw (fed-form d list piece) (mended (parts bytes text .done) m)
+    rw (fed-form byteDecoding d list piece) (mended (parts bytes text .done) m)
 
 pub places-refused : (d : Decoder) → sound d ≡ true → (list : List ℕ) → numberOf d (mostPending + 1) [] list ≡ dueTo d (mostPending + 1) (length list)
 places-refused d s list =

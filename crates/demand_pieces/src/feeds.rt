@@ -1,36 +1,33 @@
-// A text that is fed and finished, at once or in pieces: start, the feeds one after another, finish. A refused feed is not
-// counted, and its piece is tried again.
+// A text that is fed and finished, at once or in pieces: a refused feed is not counted, and its piece is tried again.
 use decoder::Opening;
 use decoder::Total;
+use demand_feeding::Found;
 use terms::Decoder;
 use terms::Written;
 ghost use mathlib.Core.Path.{_≡_};
 ghost use Prim.Native.Nat.{_≤_, _<_};
-ghost use mathlib.Core.Bool.{true};
+ghost use mathlib.Core.Bool.{true, false};
 ghost use mathlib.Core.List.{[], _∷_};
 ghost use lib.ListN.{length};
-ghost use Rattle.terms.specs.Limits.{mostRoom, freshOf};
-ghost use Rattle.decoder.specs.Tests.{sound};
-ghost use Rattle.demand_pieces.specs.Feeds as specs;
-ghost use Rattle.demand_pieces.specs.Inside.Feeding.{fedOne, fedTwice};
+ghost use Rattle.terms.specs.Limits.{mostRoom};
+ghost use Rattle.decoder_shared.specs.Decoding.{fresh};
+ghost use Rattle.decoder.specs.State.{sound, byteDecoding};
+ghost use Rattle.demand_feeding.specs.Feeds as feeds;
+ghost use Rattle.demand_feeding.specs.Inside.Feeding.{fedOne, fedTries};
+ghost use Rattle.demand_pieces.specs.Inside.Feeding.{held, Went};
 ghost use Rattle.demand_pieces.specs.Inside.Trying as tries;
 
 // So far: the decoder's state, where the next piece begins, and how many places are written.
-pub(crate) struct Gone {
-    pub state: Decoder,
-    pub from: usize,
-    pub done: usize,
+struct Gone {
+    state: Decoder,
+    from: usize,
+    done: usize,
 }
 
-// At the end: was all of the text granted, and then how many places are written, and the totals; and was every call refused
-// that must be.
-pub(crate) struct Found {
-    pub granted: bool,
+// A way through a text: what was found, and was every call refused that must be.
+pub(crate) struct Way {
+    pub found: Found,
     pub refuses: bool,
-    pub written: usize,
-    pub whole: usize,
-    pub damaged: usize,
-    pub count: usize,
 }
 
 // Feeds the piece that ends at a cut, into so many places of the rest of the output.
@@ -43,8 +40,8 @@ fn feed_piece(
     list: &mut [u32],
 ) -> Gone
     requires { ⌜ (gone .from ≤ length (now text)) × (gone .done ≤ length (now out)) ⌝ }
-    ensures { λ r. ⌜ specs.held r (now (out .exit)) (now (list .exit))
-        ≡ fedOne (now (text .entry)) (specs.held gone (now (out .entry)) (now (list .entry))) (specs.call cut places) ⌝ }
+    ensures { λ r. ⌜ held r (now (out .exit)) (now (list .exit))
+        ≡ fedOne byteDecoding (now (text .entry)) (held gone (now (out .entry)) (now (list .entry))) (feeds.call cut places) ⌝ }
 {
     let from = gone.from;
     let done = gone.done;
@@ -73,35 +70,22 @@ fn feed_twice(
     list: &mut [u32],
 ) -> Gone
     requires { ⌜ (gone .from ≤ length (now text)) × (gone .done ≤ length (now out)) ⌝ }
-    ensures { λ r. ⌜ specs.held r (now (out .exit)) (now (list .exit))
-        ≡ fedTwice (now (text .entry)) (specs.held gone (now (out .entry)) (now (list .entry))) cut scant ⌝ }
+    ensures { λ r. ⌜ held r (now (out .exit)) (now (list .exit))
+        ≡ fedTries byteDecoding (now (text .entry)) (held gone (now (out .entry)) (now (list .entry))) cut (scant ∷ []) ⌝ }
 {
     let all = out.len();
     let once = feed_piece(gone, text, cut, scant, out, list);
     feed_piece(once, text, cut, all, out, list)
 }
 
-fn nothing(refuses: bool) -> Found
-    ensures { λ r. ⌜ r ≡ specs.nothing refuses ⌝ }
-{
-    Found {
-        granted: false,
-        refuses,
-        written: 0,
-        whole: 0,
-        damaged: 0,
-        count: 0,
-    }
-}
-
 // Finishes, where all of the text was taken.
 fn end(gone: Gone, text: &[u8], out: &mut [u8], list: &mut [u32]) -> Found
     requires { ⌜ gone .done ≤ length (now out) ⌝ }
-    ensures { λ r. ⌜ specs.given r (now (out .exit)) (now (list .exit))
-        ≡ specs.finished (now (text .entry)) (specs.held gone (now (out .entry)) (now (list .entry))) ⌝ }
+    ensures { λ r. ⌜ feeds.given r (now (out .exit)) (now (list .exit))
+        ≡ feeds.finished byteDecoding (now (text .entry)) (held gone (now (out .entry)) (now (list .entry))) ⌝ }
 {
     if gone.from != text.len() {
-        return nothing(true);
+        return demand_feeding::nothing();
     }
     let done = gone.done;
     let answer = decoder::finish(gone.state, &mut out[done..], list).answer;
@@ -113,13 +97,12 @@ fn end(gone: Gone, text: &[u8], out: &mut [u8], list: &mut [u32]) -> Found
             count,
         } => Found {
             granted: true,
-            refuses: true,
             written: done + written,
             whole,
             damaged,
             count,
         },
-        Total::Refused(_) => nothing(true),
+        Total::Refused(_) => demand_feeding::nothing(),
     }
 }
 
@@ -238,9 +221,10 @@ fn try_refused(trying: bool, state: Decoder, out: &mut [u8], list: &mut [u32]) -
 
 // One feed from the fresh state, and finish.
 fn run_once(state: Decoder, text: &[u8], out: &mut [u8], list: &mut [u32]) -> Found
-    requires { ⌜ (state ≡ freshOf (state .room)) × (state .room ≤ mostRoom) ⌝ }
-    ensures { λ r. ⌜ specs.given r (now (out .exit)) (now (list .exit))
-        ≡ specs.ran (state .room) (now (text .entry)) (specs.whole (now (text .entry)) (now (out .entry)) ∷ []) (now (out .entry)) (now (list .entry)) ⌝ }
+    requires { ⌜ state ≡ fresh byteDecoding (state .room) ⌝ }
+    ensures { λ r. ⌜ feeds.given r (now (out .exit)) (now (list .exit))
+        ≡ feeds.ran byteDecoding (state .room) (now (text .entry)) (feeds.pieces (now (text .entry)) [] [] (now (out .entry)))
+        (now (out .entry)) (now (list .entry)) ⌝ }
 {
     let gone = Gone {
         state,
@@ -249,6 +233,16 @@ fn run_once(state: Decoder, text: &[u8], out: &mut [u8], list: &mut [u32]) -> Fo
     };
     let all = feed_piece(gone, text, text.len(), out.len(), out, list);
     end(all, text, out, list)
+}
+
+// What is told where a call was not refused that must be.
+fn unrefused() -> Way
+    ensures { λ r. ⌜ r .refuses ≡ false ⌝ }
+{
+    Way {
+        found: demand_feeding::nothing(),
+        refuses: false,
+    }
 }
 
 // The feeds of the pieces from the fresh state, and finish; where asked, calls that must be refused stand between them.
@@ -260,11 +254,11 @@ fn run_pieces(
     trying: bool,
     out: &mut [u8],
     list: &mut [u32],
-) -> Found
-    requires { ⌜ (state ≡ freshOf (state .room)) × (state .room ≤ mostRoom) ⌝ }
-    ensures { λ r. ⌜ specs.given r (now (out .exit)) (now (list .exit))
-        ≡ specs.ran (state .room) (now (text .entry)) (specs.pieces (now (text .entry)) (now (cuts .entry)) scant (now (out .entry)))
-        (now (out .entry)) (now (list .entry)) ⌝ }
+) -> Way
+    requires { ⌜ (state ≡ fresh byteDecoding (state .room)) × (state .room ≤ mostRoom) ⌝ }
+    ensures { λ r. ⌜ Went r (now (out .exit)) (now (list .exit))
+        (feeds.ran byteDecoding (state .room) (now (text .entry)) (feeds.pieces (now (text .entry)) (now (cuts .entry)) (scant ∷ []) (now (out .entry)))
+        (now (out .entry)) (now (list .entry))) ⌝ }
 {
     let mut gone = Gone {
         state,
@@ -276,28 +270,32 @@ fn run_pieces(
         let cut = cuts[i];
         i += 1;
         if !try_refused(trying, gone.state, out, list) {
-            return nothing(false);
+            return unrefused();
         }
         gone = feed_twice(gone, text, cut, scant, out, list);
     }
     let all = feed_twice(gone, text, text.len(), scant, out, list);
     if !try_refused(trying, all.state, out, list) {
-        return nothing(false);
+        return unrefused();
     }
-    end(all, text, out, list)
+    Way {
+        found: end(all, text, out, list),
+        refuses: true,
+    }
 }
 
 // One single feed, and finish.
 pub(crate) fn feed_once(text: &[u8], room: usize, out: &mut [u8], list: &mut [u32]) -> Found
-    ensures { λ r. ⌜ specs.given r (now (out .exit)) (now (list .exit))
-        ≡ specs.through room (now (text .entry)) (specs.whole (now (text .entry)) (now (out .entry)) ∷ []) (now (out .entry)) (now (list .entry)) ⌝ }
+    ensures { λ r. ⌜ feeds.given r (now (out .exit)) (now (list .exit))
+        ≡ feeds.through byteDecoding room (now (text .entry)) (feeds.pieces (now (text .entry)) [] [] (now (out .entry)))
+        (now (out .entry)) (now (list .entry)) ⌝ }
 {
     let started = decoder::start(room);
     let state = started.state;
     let answer = started.answer;
     match answer {
         Opening::Ready => run_once(state, text, out, list),
-        Opening::Refused(_) => nothing(true),
+        Opening::Refused(_) => demand_feeding::nothing(),
     }
 }
 
@@ -311,16 +309,19 @@ pub(crate) fn feed_pieces(
     room: usize,
     out: &mut [u8],
     list: &mut [u32],
-) -> Found
-    ensures { λ r. ⌜ specs.given r (now (out .exit)) (now (list .exit))
-        ≡ specs.through room (now (text .entry)) (specs.pieces (now (text .entry)) (now (cuts .entry)) scant (now (out .entry)))
-        (now (out .entry)) (now (list .entry)) ⌝ }
+) -> Way
+    ensures { λ r. ⌜ Went r (now (out .exit)) (now (list .exit))
+        (feeds.through byteDecoding room (now (text .entry)) (feeds.pieces (now (text .entry)) (now (cuts .entry)) (scant ∷ []) (now (out .entry)))
+        (now (out .entry)) (now (list .entry))) ⌝ }
 {
     let started = decoder::start(room);
     let state = started.state;
     let answer = started.answer;
     match answer {
         Opening::Ready => run_pieces(state, text, cuts, scant, trying, out, list),
-        Opening::Refused(_) => nothing(true),
+        Opening::Refused(_) => Way {
+            found: demand_feeding::nothing(),
+            refuses: true,
+        },
     }
 }

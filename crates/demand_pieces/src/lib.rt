@@ -1,82 +1,59 @@
 // Pieces: fed in any pieces and finished, a text gives what its whole repair writes, and the entries and totals of one feed.
-use crate::feeds::Found;
-use terms::Decoder;
-use terms::Refusal;
+use demand_feeding::Found;
 use terms::Written;
 ghost use mathlib.Core.Path.{_≡_};
 ghost use Prim.Native.Nat.{_≤_};
-ghost use mathlib.Core.Bool.{_&&_};
+ghost use mathlib.Core.Bool.{true};
+ghost use mathlib.Core.List.{[], _∷_};
 ghost use lib.ListN.{length};
-ghost use Rattle.terms.specs.Form.{repaired};
 ghost use Rattle.terms.specs.Limits.{limit};
-ghost use Rattle.terms.specs.Told.{toldRefusal};
-ghost use Rattle.utf8.specs.Scalar.{utf8};
-ghost use Rattle.demand_shared.specs.Equal.{equal};
-ghost use Rattle.demand_pieces.specs.Inside.Comparing.{due, sameTotals, enough};
-ghost use Rattle.demand_pieces.specs.Pieces as specs;
+ghost use Rattle.decoder.specs.State.{byteDecoding};
+ghost use Rattle.demand_feeding.specs.Comparing.{Fair};
+ghost use Rattle.demand_feeding.specs.Pieces as specs;
 
 mod feeds;
 
-// Was the whole repair's refusal due: is the text over the limit, or are there fewer places than it says are needed?
-fn is_due(why: Refusal, size: usize, places: usize) -> bool
-    ensures { λ r. ⌜ r ≡ due (toldRefusal why) size places ⌝ }
-{
-    if why.number() == 2 {
-        return Decoder::LIMIT < size;
-    }
-    if why.number() != 3 {
-        return false;
-    }
-    places < why.first_value()
-}
-
-// Is there room for a start, for the entries in the list, and for the form in the output?
-fn is_enough(room: usize, row: usize, form: usize, places: usize) -> bool
-    ensures { λ r. ⌜ r ≡ enough room row form places ⌝ }
-{
-    if Decoder::ROOM < room {
-        return false;
-    }
-    if row < Decoder::ENTRY * room {
-        return false;
-    }
-    form <= places
-}
-
-fn same_totals(a: Found, b: Found) -> bool
-    ensures { λ r. ⌜ r ≡ sameTotals a b ⌝ }
-{
-    if a.whole != b.whole {
-        return false;
-    }
-    if a.damaged != b.damaged {
-        return false;
-    }
-    a.count == b.count
-}
-
-// What is written, and the stored entries.
-fn same_texts(
+// Have both ways found the same, and written what the whole repair has written?
+fn compare(
+    room: usize,
     whole: &[u8],
+    a: Found,
     once: &[u8],
-    parts: &[u8],
     once_list: &[u32],
+    b: Found,
+    parts: &[u8],
     parts_list: &[u32],
 ) -> bool
-    ensures { λ r. ⌜ r ≡ (equal (now (parts .entry)) (now (whole .entry)) && equal (now (parts .entry)) (now (once .entry))
-        && equal (now («parts_list» .entry)) (now («once_list» .entry))) ⌝ }
+    requires { ⌜ Fair room (now whole) a (now once) (now «once_list») b (now parts) (now «parts_list») ⌝ }
+    ensures { λ r. ⌜ r ≡ true ⌝ }
 {
-    if !demand_shared::same_bytes(parts, whole) {
+    if !demand_feeding::are_alike(
+        room,
+        whole.len(),
+        a,
+        once.len(),
+        once_list,
+        b,
+        parts.len(),
+        parts_list,
+    ) {
         return false;
     }
-    if !demand_shared::same_bytes(parts, once) {
+    if !a.granted {
+        return true;
+    }
+    if !b.granted {
+        return true;
+    }
+    let i = a.written;
+    let j = b.written;
+    if !demand_shared::same_bytes(&once[..i], whole) {
         return false;
     }
-    demand_shared::same_numbers(parts_list, once_list)
+    demand_shared::same_bytes(&parts[..j], whole)
 }
 
-// Both ways, into buffers of their own: is each granted exactly where it has room, and is the same found, and what the whole repair
-// has written?
+// Both ways, into buffers of their own: is every call refused that must be, and is the same found, and what the whole repair has written?
 fn fed_alike(
     text: &[u8],
     cuts: &[usize],
@@ -89,43 +66,20 @@ fn fed_alike(
     parts: &mut [u8],
     parts_list: &mut [u32],
 ) -> bool
-    requires { ⌜ (now whole ≡ repaired utf8 (now text)) × (length (now text) ≤ limit) ⌝ }
+    requires { ⌜ (now whole ≡ specs.formOf byteDecoding (now text)) × (length (now text) ≤ limit) ⌝ }
     ensures { λ r. ⌜ specs.Yes
         (specs.lent (now (whole .entry)) (now (once .exit)) (now («once_list» .exit)) (now (parts .exit)) (now («parts_list» .exit)))
-        (specs.bothFed room (now (text .entry)) (now (cuts .entry)) scant
+        (specs.bothFed byteDecoding room (now (text .entry)) (now (cuts .entry)) (scant ∷ [])
         (specs.lent (now (whole .entry)) (now (once .entry)) (now («once_list» .entry)) (now (parts .entry)) (now («parts_list» .entry))))
         r ⌝ }
 {
     let a = crate::feeds::feed_once(text, room, once, once_list);
-    let b = crate::feeds::feed_pieces(text, cuts, scant, trying, room, parts, parts_list);
-    if !b.refuses {
+    let way = crate::feeds::feed_pieces(text, cuts, scant, trying, room, parts, parts_list);
+    if !way.refuses {
         return false;
     }
-    if a.granted != is_enough(room, once_list.len(), whole.len(), once.len()) {
-        return false;
-    }
-    if b.granted != is_enough(room, parts_list.len(), whole.len(), parts.len()) {
-        return false;
-    }
-    if !a.granted {
-        return true;
-    }
-    if !b.granted {
-        return true;
-    }
-    if !same_totals(a, b) {
-        return false;
-    }
-    let i = a.written;
-    let j = b.written;
-    let n = Decoder::ENTRY * demand_shared::least(room, a.count);
-    same_texts(
-        whole,
-        &once[..i],
-        &parts[..j],
-        &once_list[..n],
-        &parts_list[..n],
-    )
+    let b = way.found;
+    compare(room, whole, a, once, once_list, b, parts, parts_list)
 }
 
 // The whole repair, and then both ways.
@@ -143,7 +97,7 @@ fn alike(
 ) -> bool
     ensures { λ r. ⌜ specs.Yes
         (specs.lent (now (whole .exit)) (now (once .exit)) (now («once_list» .exit)) (now (parts .exit)) (now («parts_list» .exit)))
-        (specs.leaves room (now (text .entry)) (now (cuts .entry)) scant
+        (specs.leaves byteDecoding room (now (text .entry)) (now (cuts .entry)) (scant ∷ [])
         (specs.lent (now (whole .entry)) (now (once .entry)) (now («once_list» .entry)) (now (parts .entry)) (now («parts_list» .entry))))
         r ⌝ }
 {
@@ -160,7 +114,7 @@ fn alike(
             parts,
             parts_list,
         ),
-        Written::Refused(why) => is_due(why, text.len(), whole.len()),
+        Written::Refused(why) => demand_feeding::is_due(why, text.len(), whole.len()),
     }
 }
 
@@ -179,7 +133,7 @@ pub fn pieces(
 ) -> bool
     ensures { λ r. ⌜ specs.Yes
         (specs.lent (now (whole .exit)) (now (once .exit)) (now («once_list» .exit)) (now (parts .exit)) (now («parts_list» .exit)))
-        (specs.leaves room (now (text .entry)) (now (cuts .entry)) scant
+        (specs.leaves byteDecoding room (now (text .entry)) (now (cuts .entry)) (scant ∷ [])
         (specs.lent (now (whole .entry)) (now (once .entry)) (now («once_list» .entry)) (now (parts .entry)) (now («parts_list» .entry))))
         r ⌝ }
 {
@@ -211,7 +165,7 @@ pub fn between(
 ) -> bool
     ensures { λ r. ⌜ specs.Yes
         (specs.lent (now (whole .exit)) (now (once .exit)) (now («once_list» .exit)) (now (parts .exit)) (now («parts_list» .exit)))
-        (specs.leaves room (now (text .entry)) (now (cuts .entry)) scant
+        (specs.leaves byteDecoding room (now (text .entry)) (now (cuts .entry)) (scant ∷ [])
         (specs.lent (now (whole .entry)) (now (once .entry)) (now («once_list» .entry)) (now (parts .entry)) (now («parts_list» .entry))))
         r ⌝ }
 {

@@ -28,10 +28,6 @@ equal-only (x ∷ xs) (y ∷ ys) e =
     let b = both (eqb x y) (equal xs ys) e in
     ap₂ (λ (n : ℕ) (l : List ℕ). n ∷ l) (eqb-true x y (b .0)) (equal-only xs ys (b .1))
 
--- what is written twice, and what is stored
-pub equal-all : (p w o k l : List ℕ) → p ≡ w → p ≡ o → k ≡ l → (equal p w && equal p o && equal k l) ≡ true
-equal-all p w o k l e f g = rw (equal-yes p w e, equal-yes p o f, equal-yes k l g)
-
 -- lists of other lengths differ
 pub equal-long : (xs ys : List ℕ) → (length xs ≡ length ys → ⊥) → false ≡ equal xs ys
 equal-long [] [] h = absurd (h refl)

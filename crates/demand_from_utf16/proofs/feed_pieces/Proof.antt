@@ -5,7 +5,7 @@ use Rattle.terms.specs.Told.{isGranted}
 use Rattle.terms.proofs.ToldBack.{no-zero}
 use Rattle.decoder.specs.Feeding.{toldOpening}
 use Rattle.decoder_from_utf16.specs.State.{unitDecoding}
-use Rattle.decoder_from_utf16.proofs.LawfulUnits.{lawful}
+use Rattle.decoder_from_utf16.proofs.UnitsLawful.{units-lawful}
 use Rattle.demand_feeding.specs.Feeds.{given, pieces}
 use Rattle.demand_feeding.proofs.CallsOnTheWay.{ready-fresh, through-ready, through-refused}
 use borrow.Author.Needs.{needs}
@@ -22,7 +22,7 @@ run-requires : tie.Need-run-requires
 run-requires c κs =
     let e = c .before .before in
     let s = e .before .before .before in
-    ready-fresh unitDecoding (s .before .before .before .before .before .args .room) (s .start .ensures) lawful (ap toldOpening (e .enum-told .given .1))
+    ready-fresh unitDecoding (s .before .before .before .before .before .args .room) (s .start .ensures) units-lawful (ap toldOpening (e .enum-told .given .1))
 
 enum-told-2 : tie.Need-enum-told-2
 enum-told-2 c = search needs
@@ -42,7 +42,7 @@ returns c =
     let e = r .before .before .before in
     let s = e .before .before .before in
     let a = s .before .before .before .before .before .args in
-    through-ready unitDecoding (a .room) (s .start .ensures) lawful (a .text .now) (pieces (a .text .now) (a .cuts .now) [] (a .out .now))
+    through-ready unitDecoding (a .room) (s .start .ensures) units-lawful (a .text .now) (pieces (a .text .now) (a .cuts .now) [] (a .out .now))
     (a .out .now) (a .list .now) _ (ap toldOpening (e .enum-told .given .1)) (r .run .ensures)
 
 returns-2 : tie.Need-returns-2

@@ -1,15 +1,16 @@
 -- `alike` meets its contract: the whole repair, and then both ways.
 use mathlib.Core.Path.{sym, ap, _∙_}
 use Prim.Native.Nat.{_≤_}
+use mathlib.Core.List.{[], _∷_}
 use lib.ListN.{length}
 use lib.Seq.{length-take-le}
 use native.Mathlib.Omega.{arith}
-use Rattle.terms.specs.Form.{repaired}
 use Rattle.terms.specs.Told.{toldRefusal}
 use Rattle.terms.proofs.AnswersWritten.{repair-count}
-use Rattle.utf8.specs.Scalar.{utf8}
-use Rattle.demand_pieces.specs.Inside.Comparing.{due}
-use Rattle.demand_pieces.proofs.WholeRepairLeft.{repair-wrote, repair-within, repair-due, leaves-granted, leaves-refused}
+use Rattle.decoder.specs.State.{byteDecoding}
+use Rattle.demand_feeding.specs.Comparing.{due}
+use Rattle.demand_feeding.specs.Pieces.{formOf}
+use Rattle.demand_feeding.proofs.WholeRepairLeft.{repair-wrote, repair-within, repair-due, leaves-granted, leaves-refused}
 use borrow.Author.Needs.{needs}
 use Rattle.demand_pieces.proofs.alike.Statement.{statement}
 use Rattle.demand_pieces.proofs.alike.Tie as tie
@@ -24,8 +25,8 @@ within : (c : tie.After-known-told) → c .before .n .given .0 .0 ≤ length (c 
 within c =
     let r = c .before .before .before .before .before in
     let a = r .before .before .before .before .before .before .before .before .before .args in
-    let k = repair-count (a .text .now) (repaired utf8 (a .text .now)) (a .whole .now) (r .repair .last .1 .0) (r .repair .result) (r .repair .ensures)
-    (c .before .n .given .0 .0) (c .before .n .given .1) in
+    let k = repair-count (a .text .now) (formOf byteDecoding (a .text .now)) (a .whole .now) (r .repair .last .1 .0) (r .repair .result)
+    (r .repair .ensures) (c .before .n .given .0 .0) (c .before .n .given .1) in
     omega (arith, k .1, r .repair .kept .1 .0)
 
 slice-reshare-prefix-fed-alike : tie.Need-slice-reshare-prefix-fed-alike
@@ -38,9 +39,10 @@ fed-alike-requires : tie.Need-fed-alike-requires
 fed-alike-requires c κs =
     let n = c .before .before .before .before .before .before in
     let r = n .before .before .before .before in
-    let a = r .before .before .before .before .before .before .before .before .before .args in (
-      repair-wrote (a .text .now) (a .whole .now) (r .repair .ensures) (n .n .given .0 .0) (n .n .given .1),
-      repair-within (a .text .now) (a .whole .now) (r .repair .ensures) (n .n .given .0 .0) (n .n .given .1),
+    let a = r .before .before .before .before .before .before .before .before .before .args in
+    let form = formOf byteDecoding (a .text .now) in (
+      repair-wrote (a .text .now) form (a .whole .now) (r .repair .ensures) (n .n .given .0 .0) (n .n .given .1),
+      repair-within (a .text .now) form (a .whole .now) (r .repair .ensures) (n .n .given .0 .0) (n .n .given .1),
     )
 
 enum-known-why : tie.Need-enum-known-why
@@ -72,7 +74,8 @@ returns c =
     let a = r .before .before .before .before .before .before .before .before .before .args in
     record {
       yes = f .fed-alike .ensures .yes;
-      buffers = leaves-granted (a .room) (a .text .now) (a .cuts .now) (a .scant) (a .whole .now) (a .once .now) (a .once-list .now) (a .parts .now) (a .parts-list .now)
+      buffers = leaves-granted byteDecoding (a .room) (a .text .now) (a .cuts .now) (a .scant ∷ []) (a .whole .now)
+          (a .once .now) (a .once-list .now) (a .parts .now) (a .parts-list .now)
           (r .repair .ensures) (n .n .given .0 .0) (n .n .given .1) (f .fed-alike .ensures .buffers);
     }
 
@@ -89,8 +92,9 @@ returns-2 c =
       yes =
           c .is-due .ensures
           ∙ ap (λ n. due (toldRefusal why) (length (a .text .now)) n) (r .repair .kept .1 .0)
-          ∙ repair-due (a .text .now) (a .whole .now) (r .repair .ensures) why (w .why .given .1);
-      buffers = leaves-refused (a .room) (a .text .now) (a .cuts .now) (a .scant) (a .whole .now) (a .once .now) (a .once-list .now) (a .parts .now) (a .parts-list .now)
+          ∙ repair-due (a .text .now) (formOf byteDecoding (a .text .now)) (a .whole .now) (r .repair .ensures) why (w .why .given .1);
+      buffers = leaves-refused byteDecoding (a .room) (a .text .now) (a .cuts .now) (a .scant ∷ []) (a .whole .now)
+          (a .once .now) (a .once-list .now) (a .parts .now) (a .parts-list .now)
           (r .repair .ensures) why (w .why .given .1);
     }
 

@@ -1,14 +1,17 @@
--- One feed of a piece, and a piece that is tried twice.
+-- What the caller has between two feeds, and what a way through a text has left.
+use mathlib.Core.Path.{_≡_}
 use Prim.Native.Nat.{ℕ}
+use mathlib.Core.Bool.{true}
 use mathlib.Core.List.{List}
-use lib.ListN.{length}
-use Rattle.theory.specs.Course.{uncalled, called}
-use Rattle.demand_pieces.specs.Feeds.{Held, Call, call, feedOf}
+use Rattle.terms.specs.declared.Decoder.{Decoder}
+use Rattle.demand_feeding.specs.Feeds.{Held, Given, given}
+use Rattle.demand_pieces.specs.declared.feeds.Gone.{Gone}
+use Rattle.demand_pieces.specs.declared.feeds.Way.{Way}
 
-module _ (text : List ℕ) where
-  abbrev pub fedOne : Held → Call → Held
-  fedOne h c = called (feedOf text) (uncalled h) c .caller
+abbrev pub held : Gone → List ℕ → List ℕ → Held Decoder
+held gone out list = record { state = gone .state; from = gone .from; done = gone .done; out = out; list = list }
 
-  -- the piece that ends at a cut is tried twice: in so many places only, and in all
-  abbrev pub fedTwice : Held → ℕ → ℕ → Held
-  fedTwice h cut scant = fedOne (fedOne h (call cut scant)) (call cut (length (h .out)))
+-- it has found and left what it should, and every call was refused that must be
+pub record Went (way : Way) (out list : List ℕ) (should : Given) : Type 0 where
+  pub found : given (way .found) out list ≡ should
+  pub refuses : way .refuses ≡ true

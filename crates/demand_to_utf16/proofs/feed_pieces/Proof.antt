@@ -6,7 +6,7 @@ use Rattle.terms.proofs.ToldBack.{no-zero}
 use Rattle.decoder.specs.Feeding.{toldOpening}
 use Rattle.decoder_shared.specs.Calls.{Starts}
 use Rattle.decoder_to_utf16.specs.State.{toUnits}
-use Rattle.decoder_to_utf16.proofs.AnyCutting.{units-lawful}
+use Rattle.decoder_to_utf16.proofs.AnyCutting.{to-units-lawful}
 use Rattle.demand_feeding.specs.Feeds.{given, pieces}
 use Rattle.demand_feeding.proofs.CallsOnTheWay.{ready-fresh, through-ready, through-refused}
 use borrow.Author.Needs.{needs}
@@ -27,7 +27,7 @@ run-requires : tie.Need-run-requires
 run-requires c κs =
     let e = c .before .before in
     let s = e .before .before .before in
-    ready-fresh toUnits (s .before .before .before .before .before .args .room) (starts s) units-lawful (ap toldOpening (e .enum-told .given .1))
+    ready-fresh toUnits (s .before .before .before .before .before .args .room) (starts s) to-units-lawful (ap toldOpening (e .enum-told .given .1))
 
 enum-told-2 : tie.Need-enum-told-2
 enum-told-2 c = search needs
@@ -47,7 +47,7 @@ returns c =
     let e = r .before .before .before in
     let s = e .before .before .before in
     let a = s .before .before .before .before .before .args in
-    through-ready toUnits (a .room) (starts s) units-lawful (a .text .now) (pieces (a .text .now) (a .cuts .now) [] (a .out .now))
+    through-ready toUnits (a .room) (starts s) to-units-lawful (a .text .now) (pieces (a .text .now) (a .cuts .now) [] (a .out .now))
     (a .out .now) (a .list .now) _ (ap toldOpening (e .enum-told .given .1)) (r .run .ensures)
 
 returns-2 : tie.Need-returns-2

@@ -1,6 +1,12 @@
 -- `feeds::end` meets its contract: what finish told, left in its part of the output and in the list.
+use mathlib.Core.Path.{ap, _∙_}
 use native.Mathlib.Omega.{arith}
-use Rattle.demand_pieces.proofs.CallsOnTheWay.{end-before, end-granted, end-refused, end-fits}
+use Rattle.terms.specs.Told.{isGranted}
+use Rattle.terms.proofs.ToldBack.{no-zero}
+use Rattle.decoder.specs.Feeding.{toldTotal}
+use Rattle.decoder.specs.State.{byteDecoding}
+use Rattle.demand_feeding.proofs.CallsOnTheWay.{end-before, end-granted, end-refused, end-fits}
+use Rattle.demand_pieces.specs.Inside.Feeding.{held}
 use borrow.Author.Needs.{needs}
 use Rattle.demand_pieces.proofs.feeds.end.Statement.{statement}
 use Rattle.demand_pieces.proofs.feeds.end.Tie as tie
@@ -11,7 +17,7 @@ nothing-requires c κs = search needs
 returns : tie.Need-returns
 returns c =
     let a = c .before .before .before .before .before .before .args in
-    end-before (a .text .now) (a .gone) (a .out .now) (a .list .now) (c .before .if1 .taken) (c .nothing .result) (c .nothing .ensures)
+    end-before byteDecoding (a .text .now) (held (a .gone) (a .out .now) (a .list .now)) (c .before .if1 .taken) (c .nothing .result) (c .nothing .ensures)
 
 sub-finish : tie.Need-sub-finish
 sub-finish c = search needs
@@ -39,8 +45,8 @@ add-t20 c =
       fits = omega (
         arith,
         z .pre,
-        end-fits (a .text .now) (a .gone) (a .out .now) (a .list .now) (e .if1 .left) (f .finish .result) (f .finish .ensures)
-            (told .0 .0) (told .0 .1 .0) (told .0 .1 .1 .0) (told .0 .1 .1 .1 .0) (told .1) (z .pre),
+        end-fits byteDecoding (a .text .now) (held (a .gone) (a .out .now) (a .list .now)) (e .if1 .left) (f .finish .ensures)
+            (told .0 .0) (told .0 .1 .0) (told .0 .1 .1 .0) (told .0 .1 .1 .1 .0) (ap toldTotal (told .1)) (z .pre),
       );
     }
 
@@ -62,8 +68,8 @@ returns-2 c =
     let e = f .before .before .before in
     let a = e .before .before .before .before .before .args in
     let told = c .before .answer .given in
-    end-granted (a .text .now) (a .gone) (a .out .now) (a .list .now) (e .if1 .left) (f .finish .result) (f .finish .ensures)
-    (told .0 .0) (told .0 .1 .0) (told .0 .1 .1 .0) (told .0 .1 .1 .1 .0) (told .1)
+    end-granted byteDecoding (a .text .now) (held (a .gone) (a .out .now) (a .list .now)) (e .if1 .left) (f .finish .ensures)
+    (told .0 .0) (told .0 .1 .0) (told .0 .1 .1 .0) (told .0 .1 .1 .1 .0) (ap toldTotal (told .1))
 
 same-length-3 : tie.Need-same-length-3
 same-length-3 c = search needs
@@ -77,8 +83,8 @@ returns-3 c =
     let f = t .before .before .before .before .before .before in
     let e = f .before .before .before in
     let a = e .before .before .before .before .before .args in
-    end-refused (a .text .now) (a .gone) (a .out .now) (a .list .now) (e .if1 .left) (f .finish .result) (f .finish .ensures)
-    (t .enum-told .given .0 .0) (t .enum-told .given .1) (c .nothing2 .result) (c .nothing2 .ensures)
+    end-refused byteDecoding (a .text .now) (held (a .gone) (a .out .now) (a .list .now)) (e .if1 .left) (f .finish .ensures)
+    (ap (λ q. isGranted (toldTotal q)) (t .enum-told .given .1) ∙ no-zero (t .enum-told .given .0 .0)) (c .nothing2 .result) (c .nothing2 .ensures)
 
 pub end-spec : {M : Type 1} → statement M
 end-spec =

@@ -1,8 +1,13 @@
 -- `feeds::feed_once` meets its contract: start, and then the feed and finish.
-use mathlib.Core.Path.{ap}
-use mathlib.Core.List.{[], _∷_}
-use Rattle.demand_pieces.specs.Feeds.{given, whole}
-use Rattle.demand_pieces.proofs.CallsOnTheWay.{ready-fresh, through-ready, through-refused}
+use mathlib.Core.Path.{ap, _∙_}
+use mathlib.Core.List.{[]}
+use Rattle.terms.specs.Told.{isGranted}
+use Rattle.terms.proofs.ToldBack.{no-zero}
+use Rattle.decoder.specs.Feeding.{toldOpening}
+use Rattle.decoder.specs.State.{byteDecoding}
+use Rattle.decoder.proofs.BytesLawful.{bytes-lawful}
+use Rattle.demand_feeding.specs.Feeds.{given, pieces}
+use Rattle.demand_feeding.proofs.CallsOnTheWay.{ready-fresh, through-ready, through-refused}
 use borrow.Author.Needs.{needs}
 use Rattle.demand_pieces.proofs.feeds.feed_once.Statement.{statement}
 use Rattle.demand_pieces.proofs.feeds.feed_once.Tie as tie
@@ -17,7 +22,7 @@ run-once-requires : tie.Need-run-once-requires
 run-once-requires c κs =
     let e = c .before .before in
     let s = e .before .before .before in
-    ready-fresh (s .before .before .before .before .args .room) (s .start .result) (s .start .ensures) (e .enum-told .given .1)
+    ready-fresh byteDecoding (s .before .before .before .before .args .room) (s .start .ensures) bytes-lawful (ap toldOpening (e .enum-told .given .1))
 
 enum-told-2 : tie.Need-enum-told-2
 enum-told-2 c = search needs
@@ -37,16 +42,17 @@ returns c =
     let e = r .before .before .before in
     let s = e .before .before .before in
     let a = s .before .before .before .before .args in
-    through-ready (a .room) (s .start .result) (s .start .ensures) (a .text .now) (whole (a .text .now) (a .out .now) ∷ []) (a .out .now) (a .list .now) _
-    (e .enum-told .given .1) (r .run-once .ensures)
+    through-ready byteDecoding (a .room) (s .start .ensures) bytes-lawful (a .text .now) (pieces (a .text .now) [] [] (a .out .now)) (a .out .now) (a .list .now) _
+    (ap toldOpening (e .enum-told .given .1)) (r .run-once .ensures)
 
 returns-2 : tie.Need-returns-2
 returns-2 c =
     let e = c .before in
     let s = e .before .before .before in
     let a = s .before .before .before .before .args in
-    through-refused (a .room) (s .start .result) (s .start .ensures) (a .text .now) (whole (a .text .now) (a .out .now) ∷ []) (a .out .now) (a .list .now) _
-    (e .enum-told2 .given .0 .0) (e .enum-told2 .given .1) (ap (λ x. given x (a .out .now) (a .list .now)) (c .nothing .ensures))
+    through-refused byteDecoding (a .room) (s .start .ensures) (a .text .now) (pieces (a .text .now) [] [] (a .out .now)) (a .out .now) (a .list .now) _
+    (ap (λ q. isGranted (toldOpening q)) (e .enum-told2 .given .1) ∙ no-zero (e .enum-told2 .given .0 .0))
+    (ap (λ x. given x (a .out .now) (a .list .now)) (c .nothing .ensures))
 
 pub feed-once-spec : {M : Type 1} → statement M
 feed-once-spec =

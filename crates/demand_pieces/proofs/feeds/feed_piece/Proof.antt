@@ -1,9 +1,15 @@
 -- `feeds::feed_piece` meets its contract: what the feed told, left in its part of the output and in the list.
-use Prim.Native.Nat.{_≤_}
-use lib.ListN.{length}
+use mathlib.Core.Path.{_≡_, ap, _∙_}
+use Prim.Native.Nat.{_+_, _-_, min, _≤_}
+use lib.ListN.{length, take, drop, length-drop}
 use native.Mathlib.Omega.{arith}
+use Rattle.terms.specs.Told.{toldWritten, isGranted}
+use Rattle.terms.proofs.ToldBack.{no-zero}
+use Rattle.utf8_pending.proofs.HeldInPlaces.{take-min}
+use Rattle.decoder.specs.State.{byteDecoding}
 use Rattle.demand_shared.proofs.CutsBetween.{bring-from, bring-end}
-use Rattle.demand_pieces.proofs.CallsOnTheWay.{piece-fits, piece-granted, piece-refused}
+use Rattle.demand_feeding.proofs.CallsOnTheWay.{piece-fits, piece-granted, piece-refused}
+use Rattle.demand_pieces.specs.Inside.Feeding.{held}
 use borrow.Author.Needs.{needs}
 use Rattle.demand_pieces.proofs.feeds.feed_piece.Statement.{statement}
 use Rattle.demand_pieces.proofs.feeds.feed_piece.Tie as tie
@@ -30,6 +36,19 @@ to-in : (c : tie.After-least) → c .before .bring .result ≤ length (c .before
 to-in c =
     let z = c .before .before .before .before .before in
     rw (c .before .bring .ensures) (bring-end (z .args .cut) (z .args .gone .from) (length (z .args .text .now)) (z .pre .0))
+
+-- and so many places of the rest are lent
+abbrev start : (c : tie.After-least) → tie.Start
+start c = c .before .before .before .before .before
+
+lent-is : (c : tie.After-least) → let a = start c .args in
+    take ((a .gone .done + c .least .result) - a .gone .done) (drop (a .gone .done) (a .out .now)) ≡ take (a .places) (drop (a .gone .done) (a .out .now))
+lent-is c =
+    let a = start c .args in
+    let rest = drop (a .gone .done) (a .out .now) in
+    let e : (a .gone .done + c .least .result) - a .gone .done ≡ min (length rest) (a .places)
+    = omega (arith, c .least .ensures, length-drop (a .gone .done) (a .out .now)) in
+    ap (λ n. take n rest) e ∙ take-min (a .places) rest
 
 sub-feed : tie.Need-sub-feed
 sub-feed c = from-in c
@@ -59,13 +78,14 @@ add-t27 : tie.Need-add-t27
 add-t27 c =
     let f = c .before .before .before .before .before .before .before .before in
     let l = f .before .before .before .before in
-    let z = l .before .before .before .before .before in
+    let z = start l in
     let a = z .args in
     record {
       fits = omega (
         arith,
-        piece-fits (a .text .now) (a .gone) (a .cut) (a .places) (a .out .now) (a .list .now) (l .before .bring .result) (l .least .result)
-            (l .before .bring .ensures) (l .least .ensures) (f .feed .result) (f .feed .ensures) (c .before .answer .given .0 .0) (c .before .answer .given .1) (z .pre .1),
+        piece-fits byteDecoding (a .text .now) (held (a .gone) (a .out .now) (a .list .now)) (a .cut) (a .places) (l .before .bring .result)
+            ((a .gone .done + l .least .result) - a .gone .done) (l .before .bring .ensures) (lent-is l) (f .feed .ensures)
+            (c .before .answer .given .0 .0) (ap toldWritten (c .before .answer .given .1)) (z .pre .1),
       );
     }
 
@@ -82,9 +102,10 @@ returns : tie.Need-returns
 returns c =
     let f = c .before .before .before .before .before .before .before .before in
     let l = f .before .before .before .before in
-    let a = l .before .before .before .before .before .args in
-    piece-granted (a .text .now) (a .gone) (a .cut) (a .places) (a .out .now) (a .list .now) (l .before .bring .result) (l .least .result)
-    (l .before .bring .ensures) (l .least .ensures) (f .feed .result) (f .feed .ensures) (c .before .answer .given .0 .0) (c .before .answer .given .1)
+    let a = start l .args in
+    piece-granted byteDecoding (a .text .now) (held (a .gone) (a .out .now) (a .list .now)) (a .cut) (a .places) (l .before .bring .result)
+    ((a .gone .done + l .least .result) - a .gone .done) (l .before .bring .ensures) (lent-is l) (f .feed .ensures)
+    (c .before .answer .given .0 .0) (ap toldWritten (c .before .answer .given .1))
 
 same-length-3 : tie.Need-same-length-3
 same-length-3 c = search needs
@@ -96,9 +117,10 @@ returns-2 : tie.Need-returns-2
 returns-2 c =
     let f = c .before .before .before .before .before .before .before in
     let l = f .before .before .before .before in
-    let a = l .before .before .before .before .before .args in
-    piece-refused (a .text .now) (a .gone) (a .cut) (a .places) (a .out .now) (a .list .now) (l .before .bring .result) (l .least .result)
-    (l .before .bring .ensures) (l .least .ensures) (f .feed .result) (f .feed .ensures) (c .enum-told .given .0 .0) (c .enum-told .given .1)
+    let a = start l .args in
+    piece-refused byteDecoding (a .text .now) (held (a .gone) (a .out .now) (a .list .now)) (a .cut) (a .places) (l .before .bring .result)
+    ((a .gone .done + l .least .result) - a .gone .done) (l .before .bring .ensures) (lent-is l) (f .feed .ensures)
+    (ap (λ q. isGranted (toldWritten q)) (c .enum-told .given .1) ∙ no-zero (c .enum-told .given .0 .0))
 
 pub feed-piece-spec : {M : Type 1} → statement M
 feed-piece-spec =

@@ -1,7 +1,13 @@
 -- `feeds::feed_pieces` meets its contract: start, and then the feeds and finish.
-use mathlib.Core.Path.{ap}
-use Rattle.demand_pieces.specs.Feeds.{given, pieces}
-use Rattle.demand_pieces.proofs.CallsOnTheWay.{ready-fresh, through-ready, through-refused}
+use mathlib.Core.Path.{refl, ap, _∙_}
+use mathlib.Core.List.{[], _∷_}
+use Rattle.terms.specs.Told.{isGranted}
+use Rattle.terms.proofs.ToldBack.{no-zero}
+use Rattle.decoder.specs.Feeding.{toldOpening}
+use Rattle.decoder.specs.State.{byteDecoding}
+use Rattle.decoder.proofs.BytesLawful.{bytes-lawful}
+use Rattle.demand_feeding.specs.Feeds.{given, pieces}
+use Rattle.demand_feeding.proofs.CallsOnTheWay.{ready-fresh, ready-roomy, through-ready, through-refused}
 use borrow.Author.Needs.{needs}
 use Rattle.demand_pieces.proofs.feeds.feed_pieces.Statement.{statement}
 use Rattle.demand_pieces.proofs.feeds.feed_pieces.Tie as tie
@@ -16,7 +22,9 @@ run-pieces-requires : tie.Need-run-pieces-requires
 run-pieces-requires c κs =
     let e = c .before .before in
     let s = e .before .before .before in
-    ready-fresh (s .before .before .before .before .before .args .room) (s .start .result) (s .start .ensures) (e .enum-told .given .1)
+    let a = s .before .before .before .before .before .args in
+    let ready = ap toldOpening (e .enum-told .given .1) in
+    (ready-fresh byteDecoding (a .room) (s .start .ensures) bytes-lawful ready, ready-roomy byteDecoding (a .room) (s .start .ensures) bytes-lawful ready)
 
 enum-told-2 : tie.Need-enum-told-2
 enum-told-2 c = search needs
@@ -36,16 +44,23 @@ returns c =
     let e = r .before .before .before in
     let s = e .before .before .before in
     let a = s .before .before .before .before .before .args in
-    through-ready (a .room) (s .start .result) (s .start .ensures) (a .text .now) (pieces (a .text .now) (a .cuts .now) (a .scant) (a .out .now))
-    (a .out .now) (a .list .now) _ (e .enum-told .given .1) (r .run-pieces .ensures)
+    record {
+      found = through-ready byteDecoding (a .room) (s .start .ensures) bytes-lawful (a .text .now) (pieces (a .text .now) (a .cuts .now) (a .scant ∷ []) (a .out .now))
+          (a .out .now) (a .list .now) _ (ap toldOpening (e .enum-told .given .1)) (r .run-pieces .ensures .found);
+      refuses = r .run-pieces .ensures .refuses;
+    }
 
 returns-2 : tie.Need-returns-2
 returns-2 c =
     let e = c .before in
     let s = e .before .before .before in
     let a = s .before .before .before .before .before .args in
-    through-refused (a .room) (s .start .result) (s .start .ensures) (a .text .now) (pieces (a .text .now) (a .cuts .now) (a .scant) (a .out .now))
-    (a .out .now) (a .list .now) _ (e .enum-told2 .given .0 .0) (e .enum-told2 .given .1) (ap (λ x. given x (a .out .now) (a .list .now)) (c .nothing .ensures))
+    record {
+      found = through-refused byteDecoding (a .room) (s .start .ensures) (a .text .now) (pieces (a .text .now) (a .cuts .now) (a .scant ∷ []) (a .out .now))
+          (a .out .now) (a .list .now) _ (ap (λ q. isGranted (toldOpening q)) (e .enum-told2 .given .1) ∙ no-zero (e .enum-told2 .given .0 .0))
+          (ap (λ x. given x (a .out .now) (a .list .now)) (c .nothing .ensures));
+      refuses = refl;
+    }
 
 pub feed-pieces-spec : {M : Type 1} → statement M
 feed-pieces-spec =

@@ -1,9 +1,11 @@
 -- `feeds::feed_twice` meets its contract: the second feed goes on from the first.
 use mathlib.Core.Path.{sym, ap, subst, _∙_}
 use lib.ListN.{length}
-use Rattle.demand_pieces.specs.Feeds.{held, call}
-use Rattle.demand_pieces.specs.Inside.Feeding.{fedOne}
-use Rattle.demand_pieces.proofs.CuttingDoesNotMatter.{Bounded, one-bounded}
+use Rattle.decoder.specs.State.{byteDecoding}
+use Rattle.demand_feeding.specs.Feeds.{call}
+use Rattle.demand_feeding.specs.Inside.Feeding.{fedOne}
+use Rattle.demand_feeding.proofs.CuttingDoesNotMatter.{Bounded, one-bounded}
+use Rattle.demand_pieces.specs.Inside.Feeding.{held}
 use borrow.Author.Needs.{needs}
 use Rattle.demand_pieces.proofs.feeds.feed_twice.Statement.{statement}
 use Rattle.demand_pieces.proofs.feeds.feed_twice.Tie as tie
@@ -17,7 +19,8 @@ feed-piece-requires-2 c κs =
     let z = f .before .before .before .before .before .before in
     let a = z .args in
     let b = subst (Bounded (a .text .now)) (sym (f .feed-piece .ensures))
-    (one-bounded (a .text .now) (held (a .gone) (a .out .now) (a .list .now)) (call (a .cut) (a .scant)) (record { from-in = z .pre .0; done-in = z .pre .1 })) in
+    (one-bounded byteDecoding (a .text .now) (held (a .gone) (a .out .now) (a .list .now)) (call (a .cut) (a .scant))
+    (record { from-in = z .pre .0; done-in = z .pre .1 })) in
     (b .from-in, b .done-in)
 
 same-length : tie.Need-same-length
@@ -31,7 +34,7 @@ returns c =
     let s = c .before .before .before .before in
     let f = s .before .before .before .before .before .before .before in
     let a = f .before .before .before .before .before .before .args in
-    s .feed-piece2 .ensures ∙ ap (λ h. fedOne (a .text .now) h (call (a .cut) (length (a .out .now)))) (f .feed-piece .ensures)
+    s .feed-piece2 .ensures ∙ ap (λ h. fedOne byteDecoding (a .text .now) h (call (a .cut) (length (a .out .now)))) (f .feed-piece .ensures)
 
 pub feed-twice-spec : {M : Type 1} → statement M
 feed-twice-spec =

@@ -1,4 +1,4 @@
--- The decoder of units is one: its reader divides, a state keeps what it stands for, and what balances passes the tests.
+-- The decoder of units is lawful: its reader divides, a state keeps what it stands for, and what balances passes the tests.
 use mathlib.Core.Path.{_≡_, refl, sym, ap, _∙_}
 use Prim.Native.Nat.{ℕ, _≤_}
 use mathlib.Core.Bool.{true, false, true≢false}
@@ -54,8 +54,8 @@ passes s b =
     ∙ sym (balanced-room d (b .sum) (b .within) ones)
     ∙ le-leb (s .room) mostRoom (b .roomy)
 
-pub lawful : Lawful unitDecoding
-lawful = record {
+pub units-lawful : Lawful unitDecoding
+units-lawful = record {
   hold = 1;
   division = units-division;
   short = λ x xs e. omega (arith, damage-one x xs e);
