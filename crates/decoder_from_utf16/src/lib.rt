@@ -29,7 +29,6 @@ mod form;
 mod tally;
 
 // The decoder of units: what it keeps between two pieces. The limits belong to it.
-#[repr(C)]
 pub struct UnitDecoder {
     // the pending unit, a first half, 0 where there is none; and how many there are
     pub held: [u16; UnitDecoder::PENDING],

@@ -29,12 +29,16 @@ fn finish(state: Decoder, list: &mut [u32]) {
 }
 
 // A pair from bytes of two pieces, and a damage across two.
-pub(crate) fn examples() {
+fn across() {
     let mut list = [0u32; 4];
     let a = feed(start(2), b"\xF0\x9F\x9A", &mut list);
     let b = feed(a, b"\x86\xE2\x82", &mut list);
     let c = feed(b, b"\x41", &mut list);
     finish(c, &mut list);
+}
+
+pub(crate) fn examples() {
+    across();
     crate::show::of_number(b"pieces_to_units::most:", 3);
     number(moxandril::pieces_to_units::most(3));
     crate::show::end();

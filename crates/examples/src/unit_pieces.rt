@@ -28,14 +28,24 @@ fn finish(state: UnitDecoder, list: &mut [u32]) {
     crate::show::list_line(list);
 }
 
-// A first half, and another that has its second half; then a half that ends the text.
-pub(crate) fn examples() {
+// A first half, and another that has its second half.
+fn across() {
     let mut list = [0u32; 4];
     let a = feed(start(2), &[0xD83D], &mut list);
     let b = feed(a, &[0xD83D, 0xDE86], &mut list);
     finish(b, &mut list);
-    let c = feed(start(2), &[0x41, 0xD83D], &mut list);
-    finish(c, &mut list);
+}
+
+// A half that ends the text.
+fn ended() {
+    let mut list = [0u32; 4];
+    let state = feed(start(2), &[0x41, 0xD83D], &mut list);
+    finish(state, &mut list);
+}
+
+pub(crate) fn examples() {
+    across();
+    ended();
     start(4_097);
     crate::show::of_number(b"unit_pieces::most:", 3);
     number(moxandril::unit_pieces::most(3));
