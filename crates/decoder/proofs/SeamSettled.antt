@@ -1,5 +1,5 @@
 -- A piece behind what is pending: nothing is settled yet, or the segment at their seam is, and the piece goes on behind it.
-use mathlib.Core.Path.{_≡_, sym, ap, _∙_}
+use mathlib.Core.Path.{_≡_, sym, ap}
 use Prim.Native.Nat.{ℕ, _+_, _-_, _≤_, _<_}
 use mathlib.Core.List.{List, [], _∷_, foldl}
 use lib.ListN.{length, drop, length-drop}
