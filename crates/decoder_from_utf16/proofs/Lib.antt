@@ -12,7 +12,7 @@ pub mod SeamOfUnits
 pub mod EndOfUnits
 -- The decoder of units is lawful: its reader divides, a state keeps what it stands for, and what balances passes the tests
 pub mod UnitsLawful
--- THE CUTTING DOES NOT MATTER: a text fed in any pieces and finished gives what conversion of the whole text writes
+-- THE CUTTING DOES NOT MATTER of a text of units, and the state always passes its tests
 pub mod AnyCutting
 -- Two answers that the promise of start, feed or finish allows are equal, and they leave the same
 pub mod OneAnswer

@@ -1,6 +1,6 @@
 -- The settled segment that stands first in a byte text, as the reader of pieces tells it and as the tally takes it
 pub mod FirstSettled
--- What is pending and a piece behind it: nothing is settled yet, or the segment at their seam, and what the piece has behind it
+-- What is pending and a piece behind it, where something is settled: the segment at their seam, and what the piece has behind it
 pub mod SeamDivides
 -- A piece that a state may take, behind what is pending: the stream then, and what the steps of a feed ask
 pub mod SeamOfState
