@@ -3,8 +3,8 @@ use mathlib.Core.Path.{_≡_, refl, sym, ap, _∙_}
 use Prim.Native.Nat.{ℕ, zero, suc, _+_, _≤_}
 use native.Mathlib.Nat.{le-antisymm, suc-add}
 use mathlib.Core.Bool.{true, false}
-use mathlib.Core.List.{List, [], _∷_, _++_, append-assoc, append-nil}
-use lib.ListN.{length, take, drop, length-append, take-append-drop}
+use mathlib.Core.List.{List, [], _∷_, _++_, map, append-assoc, append-nil, map-append}
+use lib.ListN.{length, take, drop, length-append, length-map, take-append-drop}
 use lib.Seq.{take-append-le, drop-append-le, take-length, drop-length, drop-drop, length-take-le}
 use borrow.Author.Tests.{not-true}
 use native.Mathlib.Omega.{arith}
@@ -21,6 +21,13 @@ pub record Division {K : Type 0} (look : Reader K) : Type 0 where
 pub record Holds {K : Type 0} (look : Reader K) (hold : ℕ) : Type 0 where
   pub short : (x : ℕ) (xs : List ℕ) → look x xs .sure ≡ false → suc (length xs) ≤ hold
   pub grows : (x : ℕ) (xs ys : List ℕ) → look x xs .sure ≡ false → length xs ≤ look x (xs ++ ys) .more
+
+-- a reader that sees each element through a map is a division where the reader is one
+pub through-division : {K : Type 0} (look : Reader K) (f : ℕ → ℕ) → Division look → Division (λ x xs. look (f x) (map f xs))
+through-division look f d = record {
+  fits = λ x xs. rw (length-map xs f) at (d .fits (f x) (map f xs));
+  stable = λ x xs ys s. rw (map-append f xs ys) (d .stable (f x) (map f xs) (map f ys) s);
+}
 
 -- more settled segments in front
 abbrev pub before : {K : Type 0} → List (Segment K) → Parts K → Parts K

@@ -1,5 +1,7 @@
 -- Tests and lists: what the kit's libraries lack and every crate's laws use
 pub mod Cases
+-- A rule of a table, from one test that is computed over all of its entries
+pub mod EveryEntry
 -- The laws of a division: its equations, induction by segments, that it loses nothing, and the law of a stream
 pub mod Divisions
 -- A piece more of a stream, over any division and any action of a segment

@@ -1,65 +1,85 @@
 -- The reader's loop over the bytes that a first byte wants: what it tells is what was passed and what the rest says.
-use mathlib.Core.Path.{_≡_, ap, _∙_}
+use mathlib.Core.Path.{_≡_, ap, sym, _∙_}
 use Prim.Native.Nat.{ℕ, suc, _+_, _-_, _≤_, _<_}
 use native.Mathlib.Nat.{add-zero}
 use mathlib.Core.Bool.{true, false}
-use mathlib.Core.List.{List, [], _∷_}
-use lib.ListN.{length, drop, getD}
+use mathlib.Core.List.{List, [], _∷_, map}
+use lib.ListN.{length, drop, getD, drop-of-length-le}
+use lib.Seq.{drop-cons}
 use native.Mathlib.Numerals.{add-one}
 use native.Mathlib.Omega.{arith}
 use Rattle.theory.specs.Reader.{Look}
-use Rattle.theory.specs.Table.{_to_, within, Kind, isDamage, want}
-use Rattle.theory.proofs.TableDivides.{want-ended, want-stopped, want-next}
-use Rattle.terms.specs.Told.{toldFirst, bit, lookSays}
+use Rattle.theory.specs.Table.{within, Kind, isDamage, want, wantedBehind}
+use Rattle.terms.specs.Told.{toldFirst, bit, lookSays, firstSays}
 use Rattle.terms.specs.declared.First.the-variants.{Whole, Damage, Begun}
-use Rattle.utf8.specs.Bytes.{next}
-use Rattle.utf8.specs.Inside.Lead.{ranges}
+use Rattle.terms.proofs.WalkBySegments.{says-look}
+use Rattle.utf8.specs.Classes.{classIn, rowsOfClasses, byClasses}
+use Rattle.utf8.specs.Inside.Lead.{wantedNext, laters, wanted}
+use Rattle.utf8.specs.declared.classes.Lead.{Lead}
+use Rattle.utf8.specs.declared.classes.Lead.the-variants.{Alone, Begins}
 
 -- what a look tells of a segment n of whose bytes were passed before
 abbrev says : ℕ → Look Kind → List ℕ
 says n l = bit (isDamage (l .tag)) ∷ (n + l .more) ∷ bit (l .sure) ∷ []
 
-module _ (text : List ℕ) (more low high : ℕ) where
-  -- the bytes before n are as wanted; from n on the next one is wanted from least to most
-  pub record Followed (least most n : ℕ) : Type 0 where
-    pub wanted : n ≤ suc more
-    pub same : lookSays (want (ranges more low high) (drop 1 text)) ≡ says n (want (ranges (suc more - n) least most) (drop n text))
+module _ (table text : List ℕ) where
+  abbrev class : ℕ → ℕ
+  class = classIn table
 
-  pub follow-start : Followed low high 1
-  follow-start =
-      let l : Look Kind = want (ranges more low high) (drop 1 text) in
-      let e : suc more - 1 ≡ more = omega arith in
-      record { wanted = omega arith; same = rw e (ap (λ (k : ℕ). bit (isDamage (l .tag)) ∷ k ∷ bit (l .sure) ∷ []) (omega arith)) }
+  -- what is wanted of the bytes from n on
+  abbrev left : ℕ → ℕ → ℕ → Look Kind
+  left k lead n = want (laters k lead) (map class (drop n text))
 
-  module _ (least most n : ℕ) (f : Followed least most n) where
-    -- all that was wanted is there
-    pub follow-whole : more < n → toldFirst (Whole n) ≡ lookSays (want (ranges more low high) (drop 1 text))
-    follow-whole h = let z : suc more - n ≡ 0 = omega arith in rw (f .same, z, add-zero)
+  -- what the reader tells, from what its first byte begins
+  module _ (some-there : 0 < length text) (r : Lead)
+      (b : wantedBehind rowsOfClasses (class (getD text 0 0)) ≡ wanted (class (getD text 0 0)) r) where
+    pub class-alone : r ≡ Alone → toldFirst (Damage 1) ≡ firstSays (byClasses table) text
+    unfolding byClasses
+    class-alone e = sym (says-look (byClasses table) text some-there ∙ rw (b, e))
 
-    module _ (h : n ≤ more) where
-      same-here : lookSays (want (ranges more low high) (drop 1 text))
-          ≡ says n (want (least to most ∷ ranges (more - n) (next .low) (next .high)) (drop n text))
-      same-here = let e : suc more - n ≡ suc (more - n) = omega arith in rw e at (f .same)
+    pub class-begun : (more : ℕ) → r ≡ Begins more → firstSays (byClasses table) text ≡ lookSays (left more (class (getD text 0 0)) 1)
+    unfolding byClasses
+    class-begun more e = says-look (byClasses table) text some-there ∙ rw (b, e)
 
-      -- the text ends
-      pub follow-ended : length text ≤ n → toldFirst (Begun n) ≡ lookSays (want (ranges more low high) (drop 1 text))
-      follow-ended k = rw (same-here, want-ended (least to most) (ranges (more - n) (next .low) (next .high)) text n k, add-zero)
+  module _ (first more : ℕ) where
+    -- the bytes before n are as wanted; the one at n is wanted behind a byte of class lead
+    pub record Followed (lead n : ℕ) : Type 0 where
+      pub wanted : n ≤ suc more
+      pub same : lookSays (left more first 1) ≡ says n (left (suc more - n) lead n)
 
-      -- another byte stops it
-      pub follow-stopped : n < length text → within (least to most) (getD text n 0) ≡ false
-          → toldFirst (Damage n) ≡ lookSays (want (ranges more low high) (drop 1 text))
-      follow-stopped k e = rw (same-here, want-stopped (least to most) (ranges (more - n) (next .low) (next .high)) text n k e, add-zero)
+    pub follow-start : Followed first 1
+    follow-start =
+        let l : Look Kind = left more first 1 in
+        let e : suc more - 1 ≡ more = omega arith in
+        record { wanted = omega arith; same = rw e (ap (λ (k : ℕ). bit (isDamage (l .tag)) ∷ k ∷ bit (l .sure) ∷ []) (omega arith)) }
 
-      -- the byte is as wanted
-      pub follow-next : n < length text → within (least to most) (getD text n 0) ≡ true → Followed (next .low) (next .high) (n + 1)
-      follow-next k b =
-          let rs = ranges (more - n) (next .low) (next .high) in
-          let l : Look Kind = want rs (drop (suc n) text) in
-          let e : suc more - (n + 1) ≡ more - n = omega arith in
-          record {
-            wanted = omega arith;
-            same =
-                same-here
-                ∙ rw (want-next (least to most) rs text n k b, e, add-one n)
-                (ap (λ (i : ℕ). bit (isDamage (l .tag)) ∷ i ∷ bit (l .sure) ∷ []) (omega arith));
-          }
+    module _ (lead n : ℕ) (f : Followed lead n) where
+      -- all that was wanted is there
+      pub follow-whole : more < n → toldFirst (Whole n) ≡ lookSays (left more first 1)
+      follow-whole h = let z : suc more - n ≡ 0 = omega arith in rw (f .same, z, add-zero)
+
+      module _ (h : n ≤ more) where
+        same-here : lookSays (left more first 1) ≡ says n (left (suc (more - n)) lead n)
+        same-here = let e : suc more - n ≡ suc (more - n) = omega arith in rw e at (f .same)
+
+        -- the text ends
+        pub follow-ended : length text ≤ n → toldFirst (Begun n) ≡ lookSays (left more first 1)
+        follow-ended k = rw (same-here, drop-of-length-le text k, add-zero)
+
+        -- another byte stops it
+        pub follow-stopped : n < length text → within (wantedNext lead) (class (getD text n 0)) ≡ false
+            → toldFirst (Damage n) ≡ lookSays (left more first 1)
+        follow-stopped k e = rw (same-here, drop-cons text n 0 k, e, add-zero)
+
+        -- the byte is as wanted
+        pub follow-next : n < length text → within (wantedNext lead) (class (getD text n 0)) ≡ true → Followed 5 (n + 1)
+        follow-next k b =
+            let l : Look Kind = left (more - n) 5 (suc n) in
+            let e : suc more - (n + 1) ≡ more - n = omega arith in
+            record {
+              wanted = omega arith;
+              same =
+                  same-here
+                  ∙ rw (drop-cons text n 0 k, b, e, add-one n)
+                  (ap (λ (i : ℕ). bit (isDamage (l .tag)) ∷ i ∷ bit (l .sure) ∷ []) (omega arith));
+            }

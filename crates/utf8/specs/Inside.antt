@@ -1,2 +1,2 @@
--- What a first byte tells the reader's code: how many bytes are wanted behind it, and the range of the next
+-- What the class of a first byte tells the reader's code: how many bytes are wanted behind it, and of which classes
 pub mod Lead

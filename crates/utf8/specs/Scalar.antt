@@ -5,6 +5,7 @@ use mathlib.Core.List.{List, [], _∷_}
 use lib.Dec.{ltb}
 use Rattle.terms.specs.Form.{Form}
 use Rattle.utf8.specs.Bytes.{bytes}
+use Rattle.utf8.specs.Classes.{byClasses}
 
 -- byte 1 gives its low 7, 5, 4 or 3 bits for lengths 1 to 4, each later byte its low 6, highest first
 abbrev pub number : List ℕ → ℕ
@@ -28,3 +29,7 @@ sequence c =
 -- UTF-8 as a form of text
 abbrev pub utf8 : Form
 utf8 = record { look = bytes; value = number; write = sequence }
+
+-- and as it is read by a table of classes
+abbrev pub utf8By : List ℕ → Form
+utf8By table = record { look = byClasses table; value = number; write = sequence }

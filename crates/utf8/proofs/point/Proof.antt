@@ -1,70 +1,21 @@
--- `point` meets its contract: each arm is a law of `Pointing`, and a whole segment has the number of its bytes.
-use native.Mathlib.Omega.{arith}
+-- The table reads what the paper's rows say, so its point is the paper's.
+use mathlib.Core.Path.{ap, _∙_}
 use borrow.Author.Needs.{needs}
-use Rattle.terms.proofs.PointTold.{Pointed, point-nothing, point-whole, point-damage, point-begun}
-use Rattle.utf8.specs.Scalar.{utf8}
-use Rattle.utf8.proofs.RowsOfBytes.{bytes-division, bytes-top}
+use Rattle.terms.specs.Form.{pointSays}
+use Rattle.utf8.specs.Classes.{classes}
+use Rattle.utf8.specs.Scalar.{number, sequence}
+use Rattle.utf8.proofs.ClassesRead.{table, by-table}
 use Rattle.utf8.proofs.point.Statement.{statement}
 use Rattle.utf8.proofs.point.Tie as tie
 
-segment-requires : tie.Need-segment-requires
-segment-requires c κs = search needs
-
-enum-told : tie.Need-enum-told
-enum-told c = search needs
-
-enum-known-n : tie.Need-enum-known-n
-enum-known-n c = search needs
-
--- a whole segment
-pointed : (c : tie.After-known-told)
-    → let g = c .before .before .before in
-    Pointed utf8 (g .before .before .args .text .now) (c .before .n .given .0 .0)
-pointed c =
-    let g = c .before .before .before in
-    point-whole utf8 bytes-division (g .before .before .args .text .now) _ (g .segment .ensures) _ (c .before .n .given .1)
-
-number-of-requires : tie.Need-number-of-requires
-number-of-requires c κs =
-    let p = pointed c in
-    let s = p .seen-as in
-    omega (arith, p .some, p .inside, s .long-is, bytes-top (s .head) (s .tail))
-
-enum-known-n-2 : tie.Need-enum-known-n-2
-enum-known-n-2 c = search needs
-
-enum-known-n-3 : tie.Need-enum-known-n-3
-enum-known-n-3 c = search needs
+point-by-requires : tie.Need-point-by-requires
+point-by-requires c κs = search needs
 
 returns : tie.Need-returns
+unfolding classes table
 returns c =
-    let g = c .before .before in
-    point-nothing utf8 bytes-division (g .before .before .args .text .now) _ (g .segment .ensures) (c .enum-told .given .1)
-
-returns-2 : tie.Need-returns-2
-returns-2 c = rw (c .number-of .ensures) (pointed (c .before) .says)
-
-returns-3 : tie.Need-returns-3
-returns-3 c =
-    let g = c .before .before .before in
-    point-damage utf8 bytes-division (g .before .before .args .text .now) _ (g .segment .ensures) _ (c .before .n2 .given .1)
-
-returns-4 : tie.Need-returns-4
-returns-4 c =
-    let g = c .before .before .before in
-    point-begun utf8 bytes-division (g .before .before .args .text .now) _ (g .segment .ensures) _ (c .before .n3 .given .1)
+    c .point-by .ensures
+    ∙ ap (λ look. pointSays (record { look = look; value = number; write = sequence }) (c .before .before .before .args .text .now)) by-table
 
 pub point-spec : {M : Type 1} → statement M
-point-spec =
-    tie.close
-    (tie.spec
-    segment-requires
-    enum-told
-    enum-known-n
-    number-of-requires
-    enum-known-n-2
-    enum-known-n-3
-    returns
-    returns-2
-    returns-3
-    returns-4)
+point-spec = tie.close (tie.spec point-by-requires returns)

@@ -1,17 +1,23 @@
--- What a first byte tells the reader's code: how many bytes are wanted behind it, and the range of the next.
+-- What the class of a first byte tells the reader's code: how many bytes are wanted behind it, and of which classes.
 use Prim.Native.Nat.{ℕ, zero, suc}
+use mathlib.Core.Bool.{cond}
 use mathlib.Core.List.{List, [], _∷_}
 use mathlib.Core.Option.{Option, none, some}
+use lib.Dec.{eqb}
 use Rattle.theory.specs.Table.{Range, _to_}
-use Rattle.utf8.specs.Bytes.{next}
-use Rattle.utf8.specs.declared.Lead.{Lead}
-use Rattle.utf8.specs.declared.Lead.the-variants.{Alone, Begins}
+use Rattle.utf8.specs.Classes.{anyLater}
+use Rattle.utf8.specs.declared.classes.Lead.{Lead}
+use Rattle.utf8.specs.declared.classes.Lead.the-variants.{Alone, Begins}
 
--- so many bytes, the first of them from low to high
-abbrev pub ranges : ℕ → ℕ → ℕ → List Range
-ranges zero low high = []
-ranges (suc k) low high = low to high ∷ ranges k (next .low) (next .high)
+-- the classes wanted right behind a byte of this one
+abbrev pub wantedNext : ℕ → Range
+wantedNext lead = cond (eqb lead 6) (3 to 3) (cond (eqb lead 8) (1 to 2) (cond (eqb lead 9) (2 to 3) (cond (eqb lead 11) (1 to 1) anyLater)))
 
-abbrev pub wanted : Lead → Option (List Range)
-wanted Alone = none
-wanted (Begins more low high) = some (ranges more low high)
+-- those of so many bytes: behind the first of them any later ones are wanted, as behind class 5
+abbrev pub laters : ℕ → ℕ → List Range
+laters zero lead = []
+laters (suc k) lead = wantedNext lead ∷ laters k 5
+
+abbrev pub wanted : ℕ → Lead → Option (List Range)
+wanted class Alone = none
+wanted class (Begins more) = some (laters more class)
