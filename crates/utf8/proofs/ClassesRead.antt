@@ -10,8 +10,11 @@ use native.Mathlib.Omega.{arith}
 use Rattle.theory.specs.Table.{Range, _to_, within, want, wantedBehind}
 use Rattle.theory.proofs.Cases.{under}
 use Rattle.theory.proofs.TableDivides.{in-yes, in-under, in-over}
+use Rattle.terms.specs.Form.{pointSays}
+use Rattle.terms.specs.Told.{firstSays}
 use Rattle.utf8.specs.Bytes.{row, next, rows, bytes}
 use Rattle.utf8.specs.Classes.{classes, amongRanges, inClass, unclassed, classIn, anyLater, rowsOfClasses, byClasses}
+use Rattle.utf8.specs.Scalar.{number, sequence, utf8, utf8By}
 use Rattle.utf8.proofs.ClassRule.{Ruled, by-test}
 use Rattle.utf8.proofs.ClassesWanted.{not-among, none-of}
 use Rattle.utf8.proofs.RowsOfBytes.{at-row, at-none}
@@ -282,3 +285,12 @@ table-ruled = by-test table refl refl
 
 pub by-table : byClasses table ≡ bytes
 by-table = reads-bytes table table-ruled
+
+-- so what an array with its entries tells is what the paper's rows say
+module _ (array text : List ℕ) {told : List ℕ} where
+  pub first-by-array : told ≡ firstSays (byClasses array) text → array ≡ table → told ≡ firstSays bytes text
+  first-by-array t e = t ∙ ap (λ a. firstSays (byClasses a) text) e ∙ ap (λ look. firstSays look text) by-table
+
+  pub point-by-array : told ≡ pointSays (utf8By array) text → array ≡ table → told ≡ pointSays utf8 text
+  point-by-array t e =
+      t ∙ ap (λ a. pointSays (utf8By a) text) e ∙ ap (λ look. pointSays (record { look = look; value = number; write = sequence }) text) by-table
