@@ -1,7 +1,7 @@
 //! The two bodies of each job, ours and the peer's on the same text: first compared, then handed to a meter.
 use crate::meter::{keep, Meter, Pair};
 use crate::shelf::{Number, Shelf};
-use crate::{calls, peers};
+use crate::{calls, peers, ranges};
 use std::hint::black_box;
 
 /// Two writers, each into a buffer of its own with so much room; both say how much they wrote, and must write the same.
@@ -225,6 +225,17 @@ pub fn plain_loop(text: &[u8], _: &mut Shelf, meter: &mut dyn Meter) -> Pair {
     meter.pair(
         &mut || keep(calls::plain_unit(black_box(text), end)),
         &mut || keep(peers::byte_of_unit(black_box(text), end)),
+    )
+}
+
+/// Both read segment by segment, and count the four measures.
+pub fn plain_ranges(text: &[u8], _: &mut Shelf, meter: &mut dyn Meter) -> Pair {
+    let [end, _, _] = peers::count(text);
+    let place = ranges::place_of_unit(text, end).unwrap();
+    assert_eq!(calls::plain_unit(text, end)[1..5], place);
+    meter.pair(
+        &mut || keep(calls::plain_unit(black_box(text), end)),
+        &mut || keep(ranges::place_of_unit(black_box(text), end)),
     )
 }
 

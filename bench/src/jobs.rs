@@ -127,7 +127,7 @@ pub const STREAMING: &str = "encoding_rs, streaming";
 /// How much of a text is fed byte by byte.
 pub const BYTE_BY_BYTE: usize = 4_096;
 
-pub const JOBS: [Job; 27] = [
+pub const JOBS: [Job; 28] = [
     job(CHECK, "std", cases::check_std),
     strict(job(CHECK, "simdutf8", cases::check_simdutf8)),
     job("repair", "std lossy", cases::repair_std),
@@ -174,6 +174,11 @@ pub const JOBS: [Job; 27] = [
         cases::build_bytecount,
     )),
     job("plain lookup by unit", "plain loop", cases::plain_loop),
+    job(
+        "plain lookup by unit",
+        "the reader by ranges",
+        cases::plain_ranges,
+    ),
     by_call(job(
         "indexed lookup by unit",
         "plain loop",

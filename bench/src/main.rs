@@ -15,6 +15,7 @@ mod parts;
 mod peers;
 mod picture;
 mod pieces;
+mod ranges;
 mod report;
 mod shelf;
 mod stack;

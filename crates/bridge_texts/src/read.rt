@@ -3,7 +3,8 @@ ghost use Rattle.terms.specs.Told.{firstSays};
 ghost use Rattle.terms.specs.Form.{pointSays};
 ghost use Rattle.terms.specs.Strict.{checkSays};
 ghost use Rattle.utf8.specs.Bytes.{bytes};
-ghost use Rattle.utf8.specs.Scalar.{utf8};
+ghost use Rattle.utf8.specs.Classes.{byClasses};
+ghost use Rattle.utf8.specs.Scalar.{utf8, utf8By};
 ghost use Rattle.utf16.specs.Units.{units};
 ghost use Rattle.utf16.specs.Scalar.{utf16};
 ghost use Rattle.code_points.specs.Points.{points, codePoints, pointsSay};
@@ -53,6 +54,46 @@ pub extern "C" fn bridge_bytes_point(text: &[u8], says: &mut [usize]) -> usize
 {
     bridge_numbers::telling::tell(
         bridge_numbers::answers::say_point(moxandril::bytes::point(text)),
+        says,
+    )
+}
+
+// moxandril::bytes::segment_by, with the table that is lent: as of `segment`.
+#[no_mangle]
+pub extern "C" fn bridge_bytes_segment_by(
+    text: &[u8],
+    classes: &[u8; 256],
+    says: &mut [usize],
+) -> usize
+    ensures { λ r. ⌜ Tells
+        (roomy (now (says .entry)))
+        (firstSays (byClasses (now (classes .entry))) (now (text .entry)))
+        (now (says .entry))
+        (now (says .exit))
+        r ⌝ }
+{
+    bridge_numbers::telling::tell(
+        bridge_numbers::answers::say_first(moxandril::bytes::segment_by(text, classes)),
+        says,
+    )
+}
+
+// moxandril::bytes::point_by, with the table that is lent: as of `point`.
+#[no_mangle]
+pub extern "C" fn bridge_bytes_point_by(
+    text: &[u8],
+    classes: &[u8; 256],
+    says: &mut [usize],
+) -> usize
+    ensures { λ r. ⌜ Tells
+        (roomy (now (says .entry)))
+        (pointSays (utf8By (now (classes .entry))) (now (text .entry)))
+        (now (says .entry))
+        (now (says .exit))
+        r ⌝ }
+{
+    bridge_numbers::telling::tell(
+        bridge_numbers::answers::say_point(moxandril::bytes::point_by(text, classes)),
         says,
     )
 }

@@ -247,16 +247,23 @@ fn alike(text: &[u8], out: &mut [u16]) -> Reach
     fours(text, out)
 }
 
+// So many bytes at the start are below 0x80, by whole blocks; none are looked for where they are not expected.
+fn expected_run(text: &[u8], ascii: bool) -> usize
+    ensures { λ r. ⌜ (r ≤ length (now (text .entry))) × Ascii (now (text .entry)) r ⌝ }
+{
+    if !ascii {
+        return 0;
+    }
+    ascii_run(text)
+}
+
 // Sequences of one length, or a long run of bytes below 0x80 where one is expected.
 fn stride(text: &[u8], ascii: bool, out: &mut [u16]) -> Reach
     requires { ⌜ 0 < length (now text) ⌝ }
     requires { ⌜ length (spelled (now text)) ≤ length (now out) ⌝ }
     ensures { λ r. ⌜ Strides (now (text .entry)) (now (out .entry)) (now (out .exit)) (r .passed) (r .put) ⌝ }
 {
-    if !ascii {
-        return alike(text, out);
-    }
-    let n = ascii_run(text);
+    let n = expected_run(text, ascii);
     if n == 0 {
         return alike(text, out);
     }

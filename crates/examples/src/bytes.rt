@@ -11,6 +11,13 @@ fn read(text: &[u8]) {
     crate::show::checked(moxandril::bytes::check(text));
 }
 
+fn read_by(text: &[u8]) {
+    of_bytes(b"bytes::segment_by, point_by:", text);
+    crate::show::first(moxandril::bytes::segment_by(text, &moxandril::bytes::CLASSES));
+    crate::show::point(moxandril::bytes::point_by(text, &moxandril::bytes::CLASSES));
+    crate::show::end();
+}
+
 fn to_units(text: &[u8]) {
     let mut out = [0u16; 64];
     of_bytes(b"bytes::to_units:", text);
@@ -67,9 +74,15 @@ fn broken_off() {
     example(b"\x61\xF1\x80\x80\xE1\x80\xC2\x62\x80\x63\x80\xBF\x64");
 }
 
+fn by_a_table() {
+    read_by(b"\xE2\x82\xAC");
+    read_by(b"\xE2\x82\x41");
+}
+
 pub(crate) fn examples() {
     well_formed();
     out_of_range();
     too_long();
     broken_off();
+    by_a_table();
 }

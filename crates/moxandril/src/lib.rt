@@ -15,8 +15,11 @@ pub mod bytes {
     pub use convert_from_utf8::repair_to_units;
     pub use convert_from_utf8::to_points;
     pub use convert_from_utf8::to_units;
+    pub use utf8::CLASSES;
     pub use utf8::point;
+    pub use utf8::point_by;
     pub use utf8::segment;
+    pub use utf8::segment_by;
     pub use utf8_check::check;
     pub use utf8_repair::repair;
 }

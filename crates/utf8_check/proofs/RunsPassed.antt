@@ -21,7 +21,7 @@ use Rattle.utf8_check.proofs.RunDivides.{Run, run-none}
 use Rattle.utf8_check.proofs.StandingIsWhole.{run-at}
 
 -- the form of a text is that of its run, and then that of the rest
-run-written : (text : List ℕ) (n : ℕ) → Run text n → (G : Form) → converted utf8 G text ≡ converted utf8 G (take n text) ++ converted utf8 G (drop n text)
+pub run-written : (text : List ℕ) (n : ℕ) → Run text n → (G : Form) → converted utf8 G text ≡ converted utf8 G (take n text) ++ converted utf8 G (drop n text)
 run-written text n r G = rw (r .cuts) (written-append (λ s. G .write (pointOf utf8 s)) (cut bytes (take n text)) (cut bytes (drop n text)))
 
 -- and repaired it is the run itself

@@ -11,6 +11,9 @@ pub const NOT_CALLED: usize = usize::MAX;
 
 /// Reads a text and tells.
 pub type Reads<T> = unsafe extern "C" fn(*const T, usize, *mut usize, usize) -> usize;
+/// Reads a text by a table of classes, and tells.
+pub type ReadsBy =
+    unsafe extern "C" fn(*const u8, usize, *const [u8; 256], *mut usize, usize) -> usize;
 /// Reads a text, writes an output and tells.
 pub type Writes<T, U> =
     unsafe extern "C" fn(*const T, usize, *mut U, usize, *mut usize, usize) -> usize;
@@ -65,6 +68,8 @@ pub type Ends<U> = unsafe extern "C" fn(
 #[link(name = "bridge_places", kind = "static")]
 extern "C" {
     pub fn bridge_bytes_segment(text: *const u8, n: usize, says: *mut usize, m: usize) -> usize;
+    pub fn bridge_bytes_segment_by(text: *const u8, n: usize, classes: *const [u8; 256], says: *mut usize, m: usize) -> usize;
+    pub fn bridge_bytes_point_by(text: *const u8, n: usize, classes: *const [u8; 256], says: *mut usize, m: usize) -> usize;
     pub fn bridge_units_segment(text: *const u16, n: usize, says: *mut usize, m: usize) -> usize;
     pub fn bridge_points_segment(text: *const u32, n: usize, says: *mut usize, m: usize) -> usize;
     pub fn bridge_bytes_point(text: *const u8, n: usize, says: *mut usize, m: usize) -> usize;
@@ -233,6 +238,10 @@ pub fn reads<T>(call: Reads<T>, text: &[T], places: usize) -> Told {
     told_in(places, |s, m| unsafe {
         call(text.as_ptr(), text.len(), s, m)
     })
+}
+
+pub fn by(call: ReadsBy, text: &[u8], classes: &[u8; 256]) -> Told {
+    told(|s, m| unsafe { call(text.as_ptr(), text.len(), classes, s, m) })
 }
 
 pub fn writes<T, U>(call: Writes<T, U>, text: &[T], out: &mut [U], places: usize) -> Told {

@@ -2,6 +2,7 @@
 //!
 //! Prints how many cases were compared. An argument names the subjects to run; MOXANDRIL_ROUNDS makes a longer run.
 mod calls;
+mod classes;
 #[path = "../common/mod.rs"]
 mod common;
 mod conversions;
@@ -42,7 +43,7 @@ const USUAL: usize = 1_000_000;
 type Subject = (&'static str, fn(&mut Run));
 
 /// The subjects, the longest first, so that the last to end are short.
-const SUBJECTS: [Subject; 26] = [
+const SUBJECTS: [Subject; 27] = [
     ("limits of lookups and the builder", limits::lookups),
     ("limits of conversions", limits::conversions),
     ("limits of pieces", limits::pieces),
@@ -69,6 +70,7 @@ const SUBJECTS: [Subject; 26] = [
     ("cutting", cutting::all),
     ("pending bytes", pending::all),
     ("the most places", room::all),
+    ("a lent table of classes", classes::all),
 ];
 
 /// Runs a subject; says whether it passed. The seed and the number of the case are enough to repeat a failure.

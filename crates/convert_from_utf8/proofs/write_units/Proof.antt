@@ -1,213 +1,151 @@
--- What is written, and what the rest of the text writes, is the form.
-use Prim.Native.Nat.{_+_, _-_, _≤_}
+-- The form is that of the first run, and then that of the rest.
+use mathlib.Core.Path.{sym}
+use Prim.Native.Nat.{_+_}
 use lib.ListN.{length}
+use lib.Seq.{length-take-le}
 use native.Mathlib.Omega.{arith}
-use Rattle.terms.proofs.WalkWrites.{Met, met, back, Wrote, wrote-start, wrote-end}
+use Rattle.terms.specs.Form.{converted}
+use Rattle.terms.proofs.WalkBySegments.{part-is}
+use Rattle.terms.proofs.WalkWrites.{Passed, left, back, Wrote, wrote-end}
 use Rattle.utf8.specs.Scalar.{utf8}
+use Rattle.utf8_check.proofs.RunDivides.{Run}
+use Rattle.utf8_check.proofs.StandingIsWhole.{run-at}
 use Rattle.utf16.specs.Scalar.{utf16}
-use Rattle.utf8.proofs.FaithfulForm.{utf8-faithful}
-use Rattle.utf8_check.proofs.RunsPassed.{run-inside}
-use Rattle.convert_from_utf8.proofs.RunsSpelled.{units-room, wrote-units}
-use Rattle.convert_point.proofs.PointWritten.{wrote-put}
+use Rattle.convert_from_utf8.proofs.RunsSpelled.{behind, part-end, passed-rest, room-on, wrote-on, first-room, first-wrote}
 use borrow.Author.Needs.{needs}
 use Rattle.convert_from_utf8.proofs.write_units.Statement.{statement}
 use Rattle.convert_from_utf8.proofs.write_units.Tie as tie
 
-abbrev Inv-loop : tie.InvT-loop
-Inv-loop text out₀ at₀ done₀ pace₀ out at done pace = Wrote utf8 utf16 text out₀ out at done
+whole-run-requires : tie.Need-whole-run-requires
+whole-run-requires c κs = search needs
 
-abbrev μ-loop : tie.MeasureT-loop
-μ-loop text out₀ at₀ done₀ pace₀ out at done pace = length text - at
+-- the first run
+ran : (r : tie.After-whole-run) → Run (r .before .before .before .args .text .now) (r .whole-run .result)
+ran r = run-at (r .before .before .before .args .text .now) (r .whole-run .result) (r .whole-run .ensures)
 
-loop-holds : tie.Need-loop-holds Inv-loop μ-loop
-loop-holds c = let a = c .before .before .args in wrote-start utf8 utf16 (a .text .now) (a .out .now)
+slice-aggregate-put : tie.Need-slice-aggregate-put
+slice-aggregate-put c =
+    let r = c .before in
+    sym (length-take-le (r .whole-run .result) (r .before .before .before .args .text .now) (ran r .inside))
 
-sub-paced-run : tie.Need-sub-paced-run Inv-loop μ-loop
-sub-paced-run c = let i = c .loop .inv .inside in search needs
-
-part-paced-run-start : tie.Need-part-paced-run-start Inv-loop μ-loop
-part-paced-run-start c = let i = c .loop .inv .inside in search needs
-
-part-paced-run-end : tie.Need-part-paced-run-end Inv-loop μ-loop
-part-paced-run-end c = search needs
-
-paced-run-requires : tie.Need-paced-run-requires Inv-loop μ-loop
-paced-run-requires c κs = search needs
-
--- the run ends within the text
-ends : (c : tie.After-paced-run Inv-loop μ-loop)
-    → let l = c .before .before in
-    l .loop .at + c .paced-run .result ≤ length (l .before .before .before .args .text .now)
-ends c =
-    let l = c .before .before in
-    run-inside (l .before .before .before .args .text .now) (l .loop .at) (l .loop .pace) (c .paced-run .result) (l .loop .inv .inside) (c .paced-run .ensures)
-
-add-end : tie.Need-add-end Inv-loop μ-loop
-add-end c = omega (arith, ends c, c .before .before .before .before .before .good)
-
-sub-put : tie.Need-sub-put Inv-loop μ-loop
-sub-put c = search needs
-
-part-put-start : tie.Need-part-put-start Inv-loop μ-loop
-part-put-start c = search needs
-
-part-put-end : tie.Need-part-put-end Inv-loop μ-loop
-part-put-end c = let i = ends c in search needs
-
-mul-put : tie.Need-mul-put Inv-loop μ-loop
-mul-put c = search needs
-
-sub-put-2 : tie.Need-sub-put-2 Inv-loop μ-loop
-sub-put-2 c = search needs
-
-part-put-start-2 : tie.Need-part-put-start-2 Inv-loop μ-loop
-part-put-start-2 c = search needs
-
-part-put-end-2 : tie.Need-part-put-end-2 Inv-loop μ-loop
-part-put-end-2 c = search needs
-
-put-requires : tie.Need-put-requires Inv-loop μ-loop
+put-requires : tie.Need-put-requires
 put-requires c κs =
     let r = c .before .before in
-    let l = r .before .before in
-    let z = l .before .before .before in
-    units-room (z .args .text .now) (l .loop .at) (l .loop .pace) (r .paced-run .result) (l .loop .inv .inside) (r .paced-run .ensures) (z .args .out .now) (l .loop .out) (l .loop .done) (l .loop .inv) (z .pre)
+    let z = r .before .before .before in
+    first-room (z .args .text .now) (r .whole-run .result) (ran r) (z .args .out .now) (z .pre)
 
--- what is written behind the run
-ran : (s : tie.After-put Inv-loop μ-loop)
+-- what is written behind it
+next : (s : tie.After-put)
     → let r = s .before .before .before in
-    let l = r .before .before in
-    let a = l .before .before .before .args in
-    Wrote utf8 utf16 (a .text .now) (a .out .now) (back (l .loop .out) (l .loop .done) (s .put .last .1 .0)) (l .loop .at + r .paced-run .result) (l .loop .done + s .put .result)
-ran s =
+    let a = r .before .before .before .args in
+    Wrote utf8 utf16 (a .text .now) (a .out .now) (s .put .last .1 .0) (r .whole-run .result) (s .put .result)
+next s =
     let r = s .before .before .before in
-    let l = r .before .before in
-    let z = l .before .before .before in
-    wrote-units (z .args .text .now) (l .loop .at) (l .loop .pace) (r .paced-run .result) (l .loop .inv .inside) (r .paced-run .ensures) (z .args .out .now) (l .loop .out) (l .loop .done)
-    (l .loop .inv) (z .pre) (s .put .last .1 .0) (s .put .result) (s .put .ensures)
+    let z = r .before .before .before in
+    first-wrote (z .args .text .now) (r .whole-run .result) (ran r) (z .args .out .now) (z .pre) (s .put .last .1 .0) (s .put .result) (s .put .ensures)
 
-add-done : tie.Need-add-done Inv-loop μ-loop
-add-done c = let w = ran (c .before .before) in omega (arith, w .within, c .before .before .before .before .before .before .before .before .before .before .good)
+same-length : tie.Need-same-length
+same-length c = search needs
 
-same-length : tie.Need-same-length Inv-loop μ-loop
-same-length c = ran (c .before .before .before) .long
-
-returns : tie.Need-returns Inv-loop μ-loop
+returns : tie.Need-returns
 returns c =
     let s = c .before .before .before in
     let r = s .before .before .before in
-    let l = r .before .before in
-    let a = l .before .before .before .args in
-    let e = wrote-end utf8 utf16 (a .text .now) (a .out .now) (back (l .loop .out) (l .loop .done) (s .put .last .1 .0)) (l .loop .at + r .paced-run .result) (l .loop .done + s .put .result)
-    (ran s) (c .if1 .taken) in
+    let a = r .before .before .before .args in
+    let e = wrote-end utf8 utf16 (a .text .now) (a .out .now) (s .put .last .1 .0) (r .whole-run .result) (s .put .result) (next s) (omega (arith, c .if1 .taken)) in
     record { count = e .0; output = e .1 }
 
-sub-point : tie.Need-sub-point Inv-loop μ-loop
-sub-point c = let i = ran (c .before .before .before) .inside in search needs
+sub-write-on : tie.Need-sub-write-on
+sub-write-on c = ran (c .before .before .before .before .before .before) .inside
 
-part-point-start : tie.Need-part-point-start Inv-loop μ-loop
-part-point-start c = let i = ran (c .before .before .before) .inside in search needs
+part-write-on-start : tie.Need-part-write-on-start
+part-write-on-start c = let i = ran (c .before .before .before .before .before .before) .inside in search needs
 
-part-point-end : tie.Need-part-point-end Inv-loop μ-loop
-part-point-end c = search needs
+part-write-on-end : tie.Need-part-write-on-end
+part-write-on-end c = search needs
 
-point-requires : tie.Need-point-requires Inv-loop μ-loop
-point-requires c κs = search needs
+mul-write-on : tie.Need-mul-write-on
+mul-write-on c =
+    let s = c .before .before .before .before in
+    let w = next s in
+    omega (arith, w .within, w .long, s .before .before .before .before .before .before .good)
 
-mul-put-units : tie.Need-mul-put-units Inv-loop μ-loop
-mul-put-units c = let w = ran (c .before .before .before .before .before) in omega (arith, w .within, w .long, c .before .before .before .before .before .before .before .before .before .before .before .before .before .good)
+sub-write-on-2 : tie.Need-sub-write-on-2
+sub-write-on-2 c = let w = next (c .before .before .before .before) in let i = w .within in let j = w .long in search needs
 
-sub-put-units : tie.Need-sub-put-units Inv-loop μ-loop
-sub-put-units c = let w = ran (c .before .before .before .before .before) in let i = w .within in let j = w .long in search needs
+part-write-on-start-2 : tie.Need-part-write-on-start-2
+part-write-on-start-2 c = let w = next (c .before .before .before .before) in let i = w .within in let j = w .long in search needs
 
-part-put-units-start : tie.Need-part-put-units-start Inv-loop μ-loop
-part-put-units-start c = let w = ran (c .before .before .before .before .before) in let i = w .within in let j = w .long in search needs
+part-write-on-end-2 : tie.Need-part-write-on-end-2
+part-write-on-end-2 c = let w = next (c .before .before .before .before) in let i = w .within in let j = w .long in search needs
 
-part-put-units-end : tie.Need-part-put-units-end Inv-loop μ-loop
-part-put-units-end c = let w = ran (c .before .before .before .before .before) in let i = w .within in let j = w .long in search needs
+-- all that is left
+passes : (r : tie.After-whole-run)
+    → let text = r .before .before .before .args .text .now in
+    let rest = behind text (r .whole-run .result) in
+    Passed (left utf8 utf16 text) (length text) (r .whole-run .result) (length rest) (converted utf8 utf16 rest)
+passes r =
+    let text = r .before .before .before .args .text .now in
+    let run = r .whole-run .result in
+    passed-rest text (behind text run) run (part-is text run) (ran r .inside)
 
--- the code point that was read
-here : (p : tie.After-point Inv-loop μ-loop)
-    → let r = p .before .before .before .before .before .before .before .before in
-    let l = r .before .before in
-    Met utf8 (l .before .before .before .args .text .now) (l .loop .at + r .paced-run .result) (p .point .result .size) (p .point .result .number)
-here p =
-    let e = p .before .before in
-    let r = e .before .before .before .before .before .before in
-    let l = r .before .before in
-    met utf8-faithful (l .before .before .before .args .text .now) (l .loop .at + r .paced-run .result) (e .if1 .left) _ _ (p .point .ensures)
-
-put-units-requires : tie.Need-put-units-requires Inv-loop μ-loop
-put-units-requires c κs = search needs
-
--- and what is written then
-after : (u : tie.After-put-units Inv-loop μ-loop)
-    → let p = u .before .before in
-    let s = p .before .before .before .before .before in
+write-on-requires : tie.Need-write-on-requires
+write-on-requires c κs =
+    let s = c .before .before .before .before .before in
     let r = s .before .before .before in
-    let l = r .before .before in
-    let a = l .before .before .before .args in
-    Wrote utf8 utf16 (a .text .now) (a .out .now)
-    (back (back (l .loop .out) (l .loop .done) (s .put .last .1 .0)) (l .loop .done + s .put .result) (u .put-units .last .0))
-    (l .loop .at + r .paced-run .result + p .point .result .size) (l .loop .done + s .put .result + u .put-units .result)
-after u =
-    let p = u .before .before in
-    let s = p .before .before .before .before .before in
+    let z = r .before .before .before in
+    room-on (z .args .text .now) _ _ _ (passes r) (z .args .out .now) (s .put .last .1 .0) (s .put .result) (next s) (z .pre)
+
+-- and what is written behind that
+after : (o : tie.After-write-on)
+    → let s = o .before .before .before .before .before .before in
     let r = s .before .before .before in
-    let l = r .before .before in
-    let z = l .before .before .before in
-    wrote-put utf8 utf16 (z .args .text .now) (z .args .out .now) (back (l .loop .out) (l .loop .done) (s .put .last .1 .0)) (l .loop .at + r .paced-run .result) (l .loop .done + s .put .result)
-    (ran s) (z .pre) _ _ (here p) (u .put-units .last .0) (u .put-units .result) (u .put-units .ensures)
+    let a = r .before .before .before .args in
+    Wrote utf8 utf16 (a .text .now) (a .out .now) (back (s .put .last .1 .0) (s .put .result) (o .write-on .last .1 .0))
+    (r .whole-run .result + length (behind (a .text .now) (r .whole-run .result))) (s .put .result + o .write-on .result)
+after o =
+    let s = o .before .before .before .before .before .before in
+    let r = s .before .before .before in
+    let z = r .before .before .before in
+    wrote-on (z .args .text .now) _ _ _ (passes r) (z .args .out .now) (s .put .last .1 .0) (s .put .result) (next s) (z .pre) (o .write-on .last .1 .0) (o .write-on .result) (o .write-on .ensures)
 
-add-done-2 : tie.Need-add-done-2 Inv-loop μ-loop
-add-done-2 c = let w = after (c .before .before) in omega (arith, w .within, c .before .before .before .before .before .before .before .before .before .before .before .before .before .before .before .before .before .good)
+add-result : tie.Need-add-result
+add-result c =
+    let o = c .before .before in
+    let s = o .before .before .before .before .before .before in
+    omega (arith, after o .within, s .before .before .before .before .before .before .good)
 
-add-at : tie.Need-add-at Inv-loop μ-loop
-add-at c = let m = here (c .before .before .before .before .before) in omega (arith, m .inside, c .before .before .before .before .before .before .before .before .before .before .before .before .before .before .before .before .before .before .good)
+same-length-2 : tie.Need-same-length-2
+same-length-2 c = after (c .before .before) .long
 
-pace-behind-requires : tie.Need-pace-behind-requires Inv-loop μ-loop
-pace-behind-requires c κs = search needs
-
-loop-less : tie.Need-loop-less Inv-loop μ-loop
-loop-less c = let m = here (c .before .before .before .before .before .before) in omega (arith, m .some, m .inside)
-
-loop-again : tie.Need-loop-again Inv-loop μ-loop
-loop-again c = after (c .before .before .before .before)
+returns-2 : tie.Need-returns-2
+returns-2 c =
+    let o = c .before .before in
+    let s = o .before .before .before .before .before .before in
+    let r = s .before .before .before in
+    let a = r .before .before .before .args in
+    let text = a .text .now in
+    let run = r .whole-run .result in
+    let e = wrote-end utf8 utf16 text (a .out .now) _ _ _ (after o) (part-end text (behind text run) run (part-is text run)) in
+    record { count = e .0; output = e .1 }
 
 pub write-units-spec : {M : Type 1} → statement M
 write-units-spec =
     tie.close
     (tie.spec
-    Inv-loop
-    μ-loop
-    loop-holds
-    sub-paced-run
-    part-paced-run-start
-    part-paced-run-end
-    paced-run-requires
-    add-end
-    sub-put
-    part-put-start
-    part-put-end
-    mul-put
-    sub-put-2
-    part-put-start-2
-    part-put-end-2
+    whole-run-requires
+    slice-aggregate-put
     put-requires
-    add-done
     same-length
     returns
-    sub-point
-    part-point-start
-    part-point-end
-    point-requires
-    mul-put-units
-    sub-put-units
-    part-put-units-start
-    part-put-units-end
-    put-units-requires
-    add-done-2
-    add-at
-    pace-behind-requires
-    loop-less
-    loop-again)
+    sub-write-on
+    part-write-on-start
+    part-write-on-end
+    mul-write-on
+    sub-write-on-2
+    part-write-on-start-2
+    part-write-on-end-2
+    write-on-requires
+    add-result
+    same-length-2
+    returns-2)

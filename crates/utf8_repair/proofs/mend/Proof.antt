@@ -1,106 +1,133 @@
--- Each arm puts the code point that stands first.
-use mathlib.Core.Path.{_≡_, refl, ap}
+-- Each arm is a law of what the segment takes: a whole one its own bytes, a damage those of U+FFFD.
+use mathlib.Core.Path.{_≡_, sym, ap, _∙_}
 use mathlib.Core.List.{[], _∷_}
-use Prim.Native.Nat.{_≤_}
-use lib.ListN.{length, getD, length-set}
+use lib.ListN.{length}
+use lib.Seq.{length-take-le}
 use native.Mathlib.Omega.{arith}
 use Rattle.terms.specs.Form.{replacement, pointSays}
-use Rattle.utf8.specs.Scalar.{sequence, utf8}
-use Rattle.utf8.proofs.FaithfulForm.{utf8-faithful, is-one}
-use Rattle.convert_point.proofs.PointWritten.{puts-sets}
-use Rattle.convert_point.proofs.WalkInPasses.{point-room, point-passes, point-put}
-use Rattle.utf8_repair.proofs.FirstByteTells.{point-one, point-alone}
+use Rattle.terms.specs.Told.{toldFirst, firstSays}
+use Rattle.terms.proofs.PointTold.{Pointed, point-whole, point-damage, point-begun}
+use Rattle.terms.proofs.WalkBySegments.{nothing-seen}
+use Rattle.utf8.specs.Bytes.{bytes}
+use Rattle.utf8.specs.Scalar.{utf8}
+use Rattle.utf8.proofs.RowsOfBytes.{bytes-division}
+use Rattle.utf8_repair.proofs.SegmentsMended.{whole-room, whole-passes, damage-room, damage-passes}
 use borrow.Author.Needs.{needs}
 use Rattle.utf8_repair.proofs.mend.Statement.{statement}
 use Rattle.utf8_repair.proofs.mend.Tie as tie
 
--- a byte below 0x80
-one : (c : tie.Then1)
-    → let text = c .before .before .before .before .args .text .now in
-    getD text 0 0 ∷ 1 ∷ [] ≡ pointSays utf8 text
-one c = let z = c .before .before .before .before in point-one (z .args .text .now) (z .pre .0) (c .if1 .taken)
+segment-by-requires : tie.Need-segment-by-requires
+segment-by-requires c κs = search needs
 
-room-one : (c : tie.Then1)
-    → let a = c .before .before .before .before .args in
-    length (sequence (getD (a .text .now) 0 0)) ≤ length (a .out .now)
-room-one c =
-    let z = c .before .before .before .before in
-    point-room utf8-faithful utf8 (z .args .text .now) (z .pre .0) 1 (getD (z .args .text .now) 0 0) (one c) (z .args .out .now) (z .pre .1)
+-- what was told of the text
+told : (c : tie.After-segment-by) → toldFirst (c .segment-by .result) ≡ firstSays bytes (c .before .before .before .args .text .now)
+told c =
+    let z = c .before .before .before in
+    c .segment-by .ensures ∙ ap (λ look. firstSays look (z .args .text .now)) (z .pre .1)
 
--- a byte from 0x80 to 0xC1
-alone : (c : tie.Then2) → replacement ∷ 1 ∷ [] ≡ pointSays utf8 (c .before .before .before .before .before .args .text .now)
-alone c = let z = c .before .before .before .before .before in point-alone (z .args .text .now) (z .pre .0) (c .before .if1 .left) (omega (arith, c .if2 .taken))
+enum-told : tie.Need-enum-told
+enum-told c = search needs
 
-room-alone : (c : tie.Then2) → 3 ≤ length (c .before .before .before .before .before .args .out .now)
-room-alone c =
-    let z = c .before .before .before .before .before in
-    point-room utf8-faithful utf8 (z .args .text .now) (z .pre .0) 1 replacement (alone c) (z .args .out .now) (z .pre .1)
+enum-known-n : tie.Need-enum-known-n
+enum-known-n c = search needs
 
-shared-slice-read-a : tie.Need-shared-slice-read-a
-shared-slice-read-a c = search needs
+-- a whole segment
+pointed : (c : tie.After-known-told) → Pointed utf8 (c .before .before .before .before .before .before .args .text .now) (c .before .n .given .0 .0)
+pointed c =
+    let g = c .before .before .before in
+    point-whole utf8 bytes-division (g .before .before .before .args .text .now) _ (told g) _ (c .before .n .given .1)
 
-slice-write-out : tie.Need-slice-write-out
-slice-write-out c = let a = c .before .before .before .before .args in omega (arith, room-one c, ap length (is-one (getD (a .text .now) 0 0) (c .if1 .taken)))
+slice-aggregate-pass : tie.Need-slice-aggregate-pass
+slice-aggregate-pass c = sym (length-take-le _ _ (pointed (c .before) .inside))
+
+pass-requires : tie.Need-pass-requires
+pass-requires c κs =
+    let t = c .before .before in
+    let z = t .before .before .before .before .before .before in
+    whole-room (z .args .text .now) (z .pre .0 .0) _ (pointed t) (z .args .out .now) (z .pre .0 .1)
+
+enum-known-n-2 : tie.Need-enum-known-n-2
+enum-known-n-2 c = search needs
+
+-- a damage
+damaged : (c : tie.After-known-told2) → replacement ∷ c .before .n2 .given .0 .0 ∷ [] ≡ pointSays utf8 (c .before .before .before .before .before .before .args .text .now)
+damaged c =
+    let g = c .before .before .before in
+    point-damage utf8 bytes-division (g .before .before .before .args .text .now) _ (told g) _ (c .before .n2 .given .1)
+
+mark-requires : tie.Need-mark-requires
+mark-requires c κs =
+    let z = c .before .before .before .before .before .before .before in
+    damage-room (z .args .text .now) (z .pre .0 .0) _ (damaged (c .before)) (z .args .out .now) (z .pre .0 .1)
+
+enum-known-n-3 : tie.Need-enum-known-n-3
+enum-known-n-3 c = search needs
+
+-- a damage that ends the text
+begun : (c : tie.After-known-told3) → replacement ∷ c .before .n3 .given .0 .0 ∷ [] ≡ pointSays utf8 (c .before .before .before .before .before .before .args .text .now)
+begun c =
+    let g = c .before .before .before in
+    point-begun utf8 bytes-division (g .before .before .before .args .text .now) _ (told g) _ (c .before .n3 .given .1)
+
+mark-requires-2 : tie.Need-mark-requires-2
+mark-requires-2 c κs =
+    let z = c .before .before .before .before .before .before .before in
+    damage-room (z .args .text .now) (z .pre .0 .0) _ (begun (c .before)) (z .args .out .now) (z .pre .0 .1)
+
+-- the text is not empty
+returns : tie.Need-returns
+returns c =
+    let g = c .before .before in
+    let z = g .before .before .before in
+    absurd (omega (arith, z .pre .0 .0, ap length (nothing-seen bytes (z .args .text .now) (ap toldFirst (sym (c .enum-told .given .1)) ∙ told g))))
 
 same-length : tie.Need-same-length
 same-length c = search needs
 
-returns : tie.Need-returns
-returns t =
-    let z = t .before .before .before .before in
-    let text = z .args .text .now in
-    let b = getD text 0 0 in
-    point-passes utf8-faithful utf8 text (z .pre .0) 1 b (one t) (z .args .out .now) _ 1
-    (puts-sets (sequence b) (b ∷ []) (z .args .out .now) (is-one b (t .if1 .taken)) (room-one t))
-
-slice-write-out-2 : tie.Need-slice-write-out-2
-slice-write-out-2 c = let h = room-alone c in omega arith
-
-slice-write-out-3 : tie.Need-slice-write-out-3
-slice-write-out-3 c = let h = room-alone c in simp length-set (omega arith)
-
-slice-write-out-4 : tie.Need-slice-write-out-4
-slice-write-out-4 c = let h = room-alone c in simp length-set (omega arith)
+returns-2 : tie.Need-returns-2
+returns-2 c =
+    let w = c .before .before in
+    let t = w .before .before .before in
+    let z = t .before .before .before .before .before .before in
+    whole-passes (z .args .text .now) (z .pre .0 .0) _ (pointed t) (z .args .out .now) _ _ _ (w .pass .ensures)
 
 same-length-2 : tie.Need-same-length-2
-same-length-2 c = simp length-set
+same-length-2 c = search needs
 
-returns-2 : tie.Need-returns-2
-returns-2 t =
-    let z = t .before .before .before .before .before in
-    point-passes utf8-faithful utf8 (z .args .text .now) (z .pre .0) 1 replacement (alone t) (z .args .out .now) _ 3
-    (puts-sets (sequence replacement) (0xEF ∷ 0xBF ∷ 0xBD ∷ []) (z .args .out .now) refl (room-alone t))
-
-point-requires : tie.Need-point-requires
-point-requires c κs = search needs
-
-put-bytes-requires : tie.Need-put-bytes-requires
-put-bytes-requires c κs = search needs
+returns-3 : tie.Need-returns-3
+returns-3 c =
+    let w = c .before .before in
+    let t = w .before .before in
+    let z = t .before .before .before .before .before .before in
+    damage-passes (z .args .text .now) (z .pre .0 .0) _ (damaged t) (z .args .out .now) _ _ _ (w .mark .ensures)
 
 same-length-3 : tie.Need-same-length-3
 same-length-3 c = search needs
 
-returns-3 : tie.Need-returns-3
-returns-3 c =
-    let q = c .before .before in
-    let p = q .before .before in
-    let z = p .before .before .before .before .before .before in
-    point-put utf8-faithful utf8 (z .args .text .now) (z .pre .0) _ _ (p .point .ensures) (z .args .out .now) _ _ (z .pre .1) (q .put-bytes .ensures)
+returns-4 : tie.Need-returns-4
+returns-4 c =
+    let w = c .before .before in
+    let t = w .before .before in
+    let z = t .before .before .before .before .before .before in
+    damage-passes (z .args .text .now) (z .pre .0 .0) _ (begun t) (z .args .out .now) _ _ _ (w .mark2 .ensures)
 
 pub mend-spec : {M : Type 1} → statement M
 mend-spec =
     tie.close
     (tie.spec
-    shared-slice-read-a
-    slice-write-out
-    same-length
+    segment-by-requires
+    enum-told
+    enum-known-n
+    slice-aggregate-pass
+    pass-requires
+    enum-known-n-2
+    mark-requires
+    enum-known-n-3
+    mark-requires-2
     returns
-    slice-write-out-2
-    slice-write-out-3
-    slice-write-out-4
-    same-length-2
+    same-length
     returns-2
-    point-requires
-    put-bytes-requires
+    same-length-2
+    returns-3
     same-length-3
-    returns-3)
+    returns-4)

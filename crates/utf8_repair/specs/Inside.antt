@@ -1,0 +1,2 @@
+-- How many bytes a segment has in repaired form
+pub mod Places
