@@ -46,13 +46,6 @@ counted-few text at total c = omega (arith, c .same, text-few Bytes Units text)
 pub run-undamaged : (text : List ℕ) (n : ℕ) → Run text n → damages bytes (take n text) ≡ []
 run-undamaged text n r = whole-none 0 (cut bytes (take n text)) (r .all)
 
--- the part that `&part[n..]` lends
-abbrev pub behind : List ℕ → ℕ → List ℕ
-behind part n = take (length part - n) (drop n part)
-
-pub behind-long : (part : List ℕ) (n : ℕ) → length (behind part n) ≡ length part - n
-behind-long part n = ap length (part-is part n) ∙ length-drop n part
-
 -- ---- a part that is the text from a place on
 
 module _ (text part : List ℕ) (at : ℕ) (is : part ≡ drop at text) where
@@ -61,9 +54,6 @@ module _ (text part : List ℕ) (at : ℕ) (is : part ≡ drop at text) where
 
   pub part-end : length text ≤ at + length part
   part-end = omega (arith, part-long)
-
-  pub behind-is : (n : ℕ) → behind part n ≡ drop (at + n) text
-  behind-is n = part-is part n ∙ rw is (drop-drop n at text)
 
   -- the code point at its start, by a table that reads what the paper's rows say
   pub met-there : (table : List ℕ) → byClasses table ≡ bytes → 0 < length part → (n c : ℕ)

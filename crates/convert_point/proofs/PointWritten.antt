@@ -39,7 +39,7 @@ module _ (G : Form) (c : ℕ) (out : List ℕ) where
       either false = refl
 
   -- a scalar value that has room
-  pub put-whole : isScalar c ≡ true → length (G .write c) ≤ length out → (out′ : List ℕ) (n : ℕ) → Puts (fitting G (length out) c) out out′ n → Puts (G .write c) out out′ n
+  put-whole : isScalar c ≡ true → length (G .write c) ≤ length out → (out′ : List ℕ) (n : ℕ) → Puts (fitting G (length out) c) out out′ n → Puts (G .write c) out out′ n
   put-whole s h out′ n p = rw (fits h (omega (arith, scalar-top c s))) at p
 
 -- the code point that a walk has met, in the part of the output that is lent

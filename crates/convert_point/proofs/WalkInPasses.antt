@@ -10,9 +10,8 @@ use Rattle.terms.specs.Form.{Form, converted, pointSays}
 use Rattle.terms.proofs.FaithfulForms.{Faithful}
 use Rattle.terms.proofs.WalkBySegments.{part-is}
 use Rattle.terms.proofs.WalkWrites.{Met, met, left-end, lent, back, back-is, Wrote}
-use Rattle.convert_point.specs.Puts.{fitting, Puts}
+use Rattle.convert_point.specs.Puts.{Puts}
 use Rattle.convert_point.specs.Inside.Passes.{Passes, PassesTo}
-use Rattle.convert_point.proofs.PointWritten.{put-whole}
 
 -- what `&text[at..]` hands over, as the text from there on
 pub passes-part : (F G : Form) (text : List ℕ) (at read places : ℕ) → Passes F G (take (length text - at) (drop at text)) read places → Passes F G (drop at text) read places
@@ -35,10 +34,6 @@ module _ {F : Form} (f : Faithful F) (G : Form) (text : List ℕ) (some : 0 < le
     passes = record { some = stands .some; inside = omega (arith, stands .inside); form = G .write c; count = p .count; parted = point-parted };
     puts = p;
   }
-
-  -- the same as the writer of one code point says it
-  pub point-put : (out out′ : List ℕ) (places : ℕ) → length (converted F G text) ≤ length out → Puts (fitting G (length out) c) out out′ places → PassesTo F G text out out′ n places
-  point-put out out′ places h p = point-passes out out′ places (put-whole G c out (stands .scalar) (point-room out h) out′ places p)
 
 -- ---- the need: so much of the text was read, and takes so many places
 

@@ -1,5 +1,7 @@
 -- The settled segment that stands first in a byte text, as the reader of pieces tells it and as the tally takes it
 pub mod FirstSettled
+-- The walk in which all that is settled of a byte text is tallied: the segment that the reader told of what is left, and a run behind it
+pub mod TallyOfBytes
 -- What is pending and a piece behind it, where something is settled: the segment at their seam, and what the piece has behind it
 pub mod SeamDivides
 -- A piece that a state may take, behind what is pending: the stream then, and what the steps of a feed ask

@@ -39,6 +39,9 @@ pub(crate) fn write_both(head: &[u8], rest: &[u8], out: &mut [u16]) -> Written
     if head.len() == 0 {
         return convert_from_utf8::repair_to_units(rest, out);
     }
+    if rest.len() == 0 {
+        return convert_from_utf8::repair_to_units(head, out);
+    }
     let at = places(head);
     if out.len() < at {
         return Written::Refused(Refusal::NoRoom {

@@ -63,25 +63,53 @@ pub(crate) fn count(seg: First, tally: Tally, room: usize, list: &mut [u32]) -> 
     }
 }
 
-// Each settled segment of a text is tallied in its turn; runs of whole segments go at once.
-pub(crate) fn walk(text: &[u8], tally: Tally, room: usize, list: &mut [u32]) -> Settled
+// Each settled segment of a text is tallied in its turn: segments and runs of whole ones by turns, a segment first.
+fn walk_on(text: &[u8], tally: Tally, room: usize, list: &mut [u32]) -> Settled
     requires { ⌜ Fits room (length (now text)) (logOf tally (now list)) ⌝ }
     ensures { λ r. ⌜ Settles bytes room (now (text .entry)) (logOf tally (now (list .entry))) (logOf (r .tally) (now (list .exit))) (r .size) ⌝ }
 {
     let mut tally = tally;
-    let mut at: usize = 0;
+    let mut rest = text;
     let mut pace = Pace::START;
     loop {
-        let run = utf8_check::paced_run(&text[at..], pace);
-        tally = pass(run, tally);
-        at += run;
-        let seg = utf8::segment(&text[at..]);
+        let seg = utf8::segment_by(rest, &utf8::CLASSES);
         let size = utf8_pending::settled_size(seg);
         if size == 0 {
-            return Settled { tally, size: at };
+            return Settled {
+                tally,
+                size: text.len() - rest.len(),
+            };
         }
         tally = count(seg, tally, room, list);
-        at += size;
+        let behind = &rest[size..];
+        let run = utf8_check::paced_run(behind, pace);
+        tally = pass(run, tally);
         pace = utf8_check::pace_behind(pace, run);
+        rest = &behind[run..];
+    }
+}
+
+// Each settled segment of a text is tallied in its turn. The first run goes before all others: in most pieces it is all there is, and no
+// table is made.
+pub(crate) fn walk(text: &[u8], tally: Tally, room: usize, list: &mut [u32]) -> Settled
+    requires { ⌜ Fits room (length (now text)) (logOf tally (now list)) ⌝ }
+    ensures { λ r. ⌜ Settles bytes room (now (text .entry)) (logOf tally (now (list .entry))) (logOf (r .tally) (now (list .exit))) (r .size) ⌝ }
+{
+    if text.len() == 0 {
+        return Settled { tally, size: 0 };
+    }
+    let run = utf8_check::whole_run(text);
+    let first = pass(run, tally);
+    if run == text.len() {
+        return Settled {
+            tally: first,
+            size: run,
+        };
+    }
+    let all = walk_on(&text[run..], first, room, list);
+    let tally = all.tally;
+    Settled {
+        tally,
+        size: run + all.size,
     }
 }

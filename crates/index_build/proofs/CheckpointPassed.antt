@@ -12,13 +12,13 @@ use Rattle.theory.specs.Index.{marks, add}
 use Rattle.theory.specs.Tally.{size}
 use Rattle.theory.proofs.Cases.{split, under}
 use Rattle.place.specs.Measures.{ruler, reader}
-use Rattle.place.specs.Walk.{unitsBySize, linesByHead}
+use Rattle.place.specs.Walk.{behind, unitsBySize, linesByHead}
 use Rattle.place.specs.Lookup.{fourCounts}
 use Rattle.place.specs.declared.Place.{Place}
 use Rattle.place.proofs.MeasuresRise.{units-by-size}
 use Rattle.index_checkpoint.specs.Checkpoints.{spacing, width, needed}
 use Rattle.index_checkpoint.specs.Marks.{markedAt, markedOnce}
-use Rattle.index_build.specs.Inside.Steps.{Fits, marked, behind, Ahead, builtOf}
+use Rattle.index_build.specs.Inside.Steps.{Fits, marked, Ahead, builtOf}
 
 -- ---- one checkpoint
 

@@ -2,7 +2,7 @@
 use mathlib.Core.Path.{_≡_, sym, ap, _∙_}
 use Prim.Native.Nat.{ℕ, zero, suc, _+_, _-_, _≤_, _<_}
 use mathlib.Core.Bool.{true}
-use mathlib.Core.List.{List, [], _∷_, foldl, foldl-append}
+use mathlib.Core.List.{List, [], _∷_, _++_, foldl, foldl-append}
 use lib.ListN.{length, getD, take, drop, length-drop}
 use lib.Seq.{sets, length-sets, length-take-le, drop-length}
 use borrow.Author.Tests.{not-true}
@@ -19,13 +19,14 @@ use Rattle.utf8_pending.proofs.SettledFirst.{settled-inside}
 use Rattle.utf8_pending.proofs.SeamIsFirst.{seam-pending, seam-over, seam-inside, seam-behind}
 use Rattle.place.specs.Measures.{ruler, reader}
 use Rattle.place.specs.Lookup.{fourCounts}
+use Rattle.place.specs.Walk.{behind}
 use Rattle.place.specs.declared.Place.{Place}
 use Rattle.index_checkpoint.specs.Checkpoints.{spacing, width}
 use Rattle.index_build.specs.State.{left, settledPlace}
 use Rattle.index_build.specs.declared.state.Builder.{Builder}
 use Rattle.index_build.proofs.TestsAsFacts.{Sound, sound-is}
 use Rattle.index_build.specs.Building.{closed, ended}
-use Rattle.index_build.specs.Inside.Steps.{Fits, marked, behind, Ahead, Advances, builtOf, streamOf, joined, Walks, keeping, Closes, Granted, Seams}
+use Rattle.index_build.specs.Inside.Steps.{Fits, marked, Ahead, Advances, builtOf, streamOf, joined, Walks, keeping, Closes, Granted, Seams}
 use Rattle.index_build.proofs.CheckpointPassed.{behind-fits, add-first}
 use Rattle.index_build.proofs.StreamBehindWalk.{streamed, settled-few, settled-add}
 
@@ -56,6 +57,20 @@ module _ (b : Builder) (piece seam row : List ℕ) (s : Seams b piece seam row) 
 
   taken-is : taken ≡ total size (tail.firstSettled (tail.four (left b) piece))
   taken-is = ap (λ (t : List ℕ). total size (tail.firstSettled t)) (s .seam-is)
+
+  -- nothing was pending: the piece is read where it lies
+  module _ (none : b .pending ≡ 0) where
+    pub join-walks-all : Walks (settledPlace b) piece row
+    join-walks-all = record {
+      fits = settled-fits b passes;
+      within = omega (arith, s .granted .within);
+      room = omega (arith, s .granted .room);
+    }
+
+    pub join-all : streamOf (settledPlace b) row piece ≡ joined b row piece
+    join-all =
+        let e : left b ≡ [] = rw none in
+        ap (λ (t : List ℕ). streamOf (settledPlace b) row (t ++ piece)) (sym e)
 
   -- nothing is settled: all of it is pending
   pub join-none : taken ≡ 0 → (n : ℕ) (r : Builder) → r ≡ keeping seam (settledPlace b) n → Closes n (joined b row piece) row r

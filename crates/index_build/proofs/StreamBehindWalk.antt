@@ -16,11 +16,12 @@ use Rattle.utf8_pending.specs.Tail.{firstSettled}
 use Rattle.utf8_pending.proofs.SettledFirst.{settled-parts, settled-inside, settled-none, settled-some}
 use Rattle.place.specs.Measures.{ruler, longest}
 use Rattle.place.specs.Lookup.{fourCounts}
+use Rattle.place.specs.Walk.{behind}
 use Rattle.place.specs.declared.Place.{Place}
 use Rattle.index_checkpoint.specs.Checkpoints.{spacing, width}
 use Rattle.index_build.specs.declared.state.Builder.{Builder}
 use Rattle.index_build.specs.Building.{closed}
-use Rattle.index_build.specs.Inside.Steps.{marked, behind, Ahead, Advances, builtOf, streamOf, Walks, Walked, keeping, Closes, Stretched}
+use Rattle.index_build.specs.Inside.Steps.{marked, Ahead, Advances, builtOf, streamOf, Walks, Walked, keeping, Closes, Stretched}
 use Rattle.index_build.proofs.CheckpointPassed.{behind-fits, add-first}
 
 -- what parts of a text leave behind

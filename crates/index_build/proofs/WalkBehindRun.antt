@@ -1,6 +1,6 @@
 -- The walk over a text that begins with a run of whole segments.
 use mathlib.Core.Path.{_≡_, sym, ap, _∙_}
-use Prim.Native.Nat.{ℕ, _+_, _-_, _≤_}
+use Prim.Native.Nat.{ℕ, _+_, _≤_}
 use mathlib.Core.List.{List, []}
 use lib.ListN.{length, take, drop, length-drop, take-append-drop}
 use lib.Seq.{drop-length, length-take-le}
@@ -14,7 +14,6 @@ use Rattle.utf8_check.specs.Run.{wholeRun}
 use Rattle.place.proofs.ReaderDivides.{reader-division}
 use Rattle.utf8_check.proofs.RunDivides.{Run, run-long}
 use Rattle.utf8_check.proofs.StandingIsWhole.{run-at}
-use Rattle.terms.proofs.WalkBySegments.{part-is, part-to}
 use Rattle.place.specs.Measures.{ruler, reader}
 use Rattle.place.specs.Lookup.{fourCounts}
 use Rattle.place.specs.declared.Place.{Place}
@@ -42,25 +41,25 @@ walked-part rest n h {p} {q} {row} {row′} d =
     }
 
 module _ (text : List ℕ) (from : Place) (row₀ : List ℕ) (w : Walks from text row₀) {row : List ℕ} {p : Place} {at : ℕ}
-    (d : Walked text from row₀ row p at) (n : ℕ) (e : n ≡ wholeRun (take (length text - at) (drop at text))) where
+    (d : Walked text from row₀ row p at) (n : ℕ) (e : n ≡ wholeRun (drop at text)) where
   there : Run (drop at text) n
-  there = run-at (drop at text) n (rw (part-is text at) at e)
+  there = run-at (drop at text) n e
 
   pub run-inside : at + n ≤ length text
   run-inside = omega (arith, there .inside, length-drop at text, d .inside)
 
-  pub run-runs : Runs p (take (at + n - at) (drop at text)) row
+  pub run-runs : Runs p (take n (drop at text)) row
   run-runs =
       let l : length (take n (drop at text)) ≡ n = run-long (drop at text) n there in
-      rw (part-to text at n) (record {
+      record {
         walks = record {
           fits = d .fits;
           within = rw l (omega (arith, run-inside, d .bytes-are, w .within));
           room = rw l (omega (arith, run-inside, d .bytes-are, d .long, w .room));
         };
         whole = whole-none 0 (cut reader (take n (drop at text))) (there .all);
-      })
+      }
 
-  pub run-walked : {row′ : List ℕ} {q : Place}
-      → Walked (take (at + n - at) (drop at text)) p row row′ q (length (take (at + n - at) (drop at text))) → Walked text from row₀ row′ q (at + n)
-  run-walked v = walked-on text from row₀ d (walked-part (drop at text) n (there .inside) (rw (part-to text at n) at v))
+  pub run-walked : {row′ : List ℕ} {q : Place} → Walked (take n (drop at text)) p row row′ q (length (take n (drop at text)))
+      → Walked text from row₀ row′ q (at + n)
+  run-walked v = walked-on text from row₀ d (walked-part (drop at text) n (there .inside) v)

@@ -4,6 +4,8 @@ ghost use mathlib.Core.Path.{_≡_};
 ghost use Prim.Native.Nat.{_+_, _≤_};
 ghost use lib.ListN.{length};
 ghost use Rattle.theory.specs.Index.{startMarked};
+ghost use Rattle.utf8.specs.Bytes.{bytes};
+ghost use Rattle.utf8.specs.Classes.{byClasses};
 ghost use Rattle.place.specs.Measures.{ruler};
 ghost use Rattle.place.specs.Lookup.{fourCounts};
 ghost use Rattle.index_checkpoint.specs.Checkpoints.{spacing, width};
@@ -57,15 +59,16 @@ fn keep(left: &[u8], p: Place, taken: usize) -> Builder
 }
 
 // At most so many settled segments are walked over, one by one.
-fn stretch(text: &[u8], from: Place, most: usize, row: &mut [u32]) -> Place
+fn stretch(text: &[u8], from: Place, most: usize, row: &mut [u32], classes: &[u8; 256]) -> Place
     requires { ⌜ Stretches from (now text) most (now row) ⌝ }
+    requires { ⌜ byClasses (now classes) ≡ bytes ⌝ }
     ensures { λ r. ⌜ Stretched (now (text .entry)) from (now (row .entry)) (now (row .exit)) r ⌝ }
 {
     let mut p = from;
     let mut at: usize = 0;
     let mut left = most;
     while 0 < left {
-        let size = utf8_pending::settled_size(utf8::segment(&text[at..]));
+        let size = utf8_pending::settled_size(utf8::segment_by(&text[at..], classes));
         if size == 0 {
             return p;
         }
@@ -76,27 +79,48 @@ fn stretch(text: &[u8], from: Place, most: usize, row: &mut [u32]) -> Place
     p
 }
 
-// All that is settled of a text is walked over from a place on, and the rest is kept: runs of whole segments at once, and some
-// segments one by one behind each.
-fn walk(text: &[u8], from: Place, taken: usize, row: &mut [u32]) -> Builder
+// All that is settled of a text is walked over from a place on, and the rest is kept: some segments one by one, and the run of
+// whole segments behind them at once.
+fn walk_by(text: &[u8], from: Place, taken: usize, row: &mut [u32], classes: &[u8; 256]) -> Builder
     requires { ⌜ Walks from (now text) (now row) ⌝ }
+    requires { ⌜ byClasses (now classes) ≡ bytes ⌝ }
     ensures { λ r. ⌜ Closes taken (streamOf from (now (row .entry)) (now (text .entry))) (now (row .exit)) r ⌝ }
 {
     let mut p = from;
     let mut at: usize = 0;
     let mut wait: usize = 1;
     loop {
-        let run = utf8_check::whole_run(&text[at..]);
-        let end = at + run;
-        p = crate::run::pass_run(&text[at..end], p, row);
-        let q = stretch(&text[end..], p, wait, row);
+        let q = stretch(&text[at..], p, wait, row, classes);
         if q.bytes == p.bytes {
-            return keep(&text[end..], q, taken);
+            return keep(&text[at..], q, taken);
         }
-        p = q;
-        at = q.bytes - from.bytes;
+        let start = q.bytes - from.bytes;
+        let run = utf8_check::whole_run(&text[start..]);
+        at = start + run;
+        p = crate::run::pass_run(&text[start..at], q, row);
         wait = utf8_check::wait_behind(wait, run);
     }
+}
+
+// The same, with the table made for it.
+fn walk_on(text: &[u8], from: Place, taken: usize, row: &mut [u32]) -> Builder
+    requires { ⌜ Walks from (now text) (now row) ⌝ }
+    ensures { λ r. ⌜ Closes taken (streamOf from (now (row .entry)) (now (text .entry))) (now (row .exit)) r ⌝ }
+{
+    walk_by(text, from, taken, row, &utf8::CLASSES)
+}
+
+// The same, by the run that the text begins with: no table is made where that is all of it.
+fn walk(text: &[u8], from: Place, taken: usize, row: &mut [u32]) -> Builder
+    requires { ⌜ Walks from (now text) (now row) ⌝ }
+    ensures { λ r. ⌜ Closes taken (streamOf from (now (row .entry)) (now (text .entry))) (now (row .exit)) r ⌝ }
+{
+    let run = utf8_check::whole_run(text);
+    let p = crate::run::pass_run(&text[..run], from, row);
+    if run == text.len() {
+        return keep(&text[run..], p, taken);
+    }
+    walk_on(&text[run..], p, taken, row)
 }
 
 // A piece is taken behind what is pending: their seam tells whether anything is settled yet.
@@ -107,6 +131,9 @@ fn join(seam: &[u8], state: Builder, piece: &[u8], row: &mut [u32]) -> Builder
 {
     let taken = state.taken + piece.len();
     let p = state.settled_place();
+    if state.pending == 0 {
+        return walk(piece, p, taken, row);
+    }
     let size = utf8_pending::settled_size(utf8::segment(seam));
     if size == 0 {
         return keep(seam, p, taken);

@@ -5,25 +5,25 @@ use mathlib.Core.List.{List, [], _∷_}
 use lib.ListN.{length, getD, take, drop, length-drop}
 use lib.Seq.{drop-drop}
 use native.Mathlib.Omega.{arith}
-use Rattle.theory.specs.Reader.{Look, Segment, first, cut}
+use Rattle.theory.specs.Reader.{Reader, Look, Segment, first, cut}
 use Rattle.theory.specs.Table.{Kind}
 use Rattle.theory.specs.Tally.{size}
-use Rattle.theory.proofs.Divisions.{first-size, cut-cons}
+use Rattle.theory.proofs.Divisions.{Division, first-size, cut-cons}
 use Rattle.terms.specs.Told as told
 use Rattle.terms.specs.declared.First.{First}
 use Rattle.terms.specs.declared.First.the-variants.{Nothing, Whole, Damage, Begun}
 use Rattle.terms.proofs.WalkBySegments.{part-is}
 use Rattle.place.proofs.ReaderDivides.{reader-division}
-use Rattle.place.specs.Measures.{place, unitsOf, ruler, reader}
-use Rattle.place.specs.Walk.{unitsBySize, linesByHead, wrapped, stepped, Roomy}
+use Rattle.place.specs.Measures.{unitsOf, ruler, reader}
+use Rattle.place.specs.Walk.{wrapped, behind, steppedBy, Roomy}
 use Rattle.place.specs.declared.Place.{Place}
 use Rattle.place.proofs.MeasuresRise.{one-or-none, units-by-size, units-within}
 
--- ---- what `step` adds: nothing at the end of the text, or the reader told of `n` bytes at the start of the rest
+-- ---- what `step_by` adds: nothing at the end of the text, or the reader told of `n` bytes at the start of the rest
 
-pub stepped-end : (p : Place) (rest : List ℕ) → length rest ≡ 0 → p ≡ stepped p rest
-stepped-end p [] h = refl
-stepped-end p (x ∷ xs) h = absurd (omega arith)
+pub stepped-end : (look : Reader Kind) (p : Place) (rest : List ℕ) → length rest ≡ 0 → p ≡ steppedBy look p rest
+stepped-end look p [] h = refl
+stepped-end look p (x ∷ xs) h = absurd (omega arith)
 
 told-size : (r : First) (l : Look Kind) → told.toldFirst r ≡ told.lookSays l → told.sizeOf r ≡ suc (l .more)
 told-size Nothing l e = let z : _≡_ {A = ℕ} 0 1 = cc in absurd (omega arith)
@@ -31,14 +31,16 @@ told-size (Whole n) l e = cc
 told-size (Damage n) l e = cc
 told-size (Begun n) l e = cc
 
-pub added : (p : Place) (rest : List ℕ) → 0 < length rest → (r : First) → told.toldFirst r ≡ told.firstSays reader rest → (n : ℕ) → n ≡ told.sizeOf r
-    → wrapped (place (p .bytes + n) (p .units + unitsBySize n) (p .points + 1) (p .lines + linesByHead (getD rest 0 0))) ≡ stepped p rest
-added p [] h r e n i = absurd (omega arith)
-added p (x ∷ xs) h r e n i =
-    let s : Segment Kind = first reader x xs in
-    let f : size s ≡ suc (reader x xs .more) = first-size reader-division x xs in
-    let k : n ≡ size s = omega (arith, told-size r (reader x xs) e) in
-    rw (units-by-size x xs, ← k)
+pub added : (look : Reader Kind) → Division look → (p : Place) (rest : List ℕ) → 0 < length rest → (r : First)
+    → told.toldFirst r ≡ told.firstSays look rest → (n : ℕ) → n ≡ told.sizeOf r → wrapped (behind p n (getD rest 0 0)) ≡ steppedBy look p rest
+added look d p [] h r e n i = absurd (omega arith)
+added look d p (x ∷ xs) h r e n i =
+    let k : n ≡ size (first look x xs) = omega (arith, told-size r (look x xs) e, first-size d x xs) in
+    rw k
+
+-- WITH THE READER BY WHICH PLACES ARE COUNTED it is the ruler's step: a segment's size tells its units
+pub stepped-ruled : (p : Place) (x : ℕ) (xs : List ℕ) → steppedBy reader p (x ∷ xs) ≡ wrapped (ruler .step p (first reader x xs))
+stepped-ruled p x xs = rw (units-by-size x xs)
 
 -- THE SUMS ARE PLAIN where there is room
 pub wrapped-same : (p : Place) → p .bytes < 2 ^ 64 → p .units < 2 ^ 64 → p .points < 2 ^ 64 → p .lines < 2 ^ 64 → wrapped p ≡ p
@@ -49,11 +51,12 @@ wrapped-same p b u c l =
     let el : p .lines % 2 ^ 64 ≡ p .lines = omega arith in
     rw (eb, eu, ec, el)
 
-pub stepped-plain : (p : Place) (x : ℕ) (xs : List ℕ) → Roomy p (x ∷ xs) → stepped p (x ∷ xs) ≡ ruler .step p (first reader x xs)
+pub stepped-plain : (p : Place) (x : ℕ) (xs : List ℕ) → Roomy p (x ∷ xs) → steppedBy reader p (x ∷ xs) ≡ ruler .step p (first reader x xs)
 stepped-plain p x xs r =
     let s : Segment Kind = first reader x xs in
     let n : size s ≤ length (x ∷ xs) = omega (arith, first-size reader-division x xs, reader-division .fits x xs) in
-    wrapped-same (ruler .step p s)
+    stepped-ruled p x xs
+    ∙ wrapped-same (ruler .step p s)
     (omega (arith, r .bytes))
     (omega (arith, r .units, units-within x xs))
     (omega (arith, r .points))
@@ -68,12 +71,12 @@ pub record Taken (text : List ℕ) (at : ℕ) (p q : Place) : Type 0 where
   pub inside : at + size segment ≤ length text
   pub cuts : cut reader (drop at text) ≡ segment ∷ cut reader (drop (at + size segment) text)
 
--- it is what `step` gives of `&text[at..]`, where there is room
-pub taken : (text : List ℕ) (at : ℕ) (p q : Place) → at < length text → Roomy p (drop at text)
-    → q ≡ stepped p (take (length text - at) (drop at text)) → Taken text at p q
-taken text at p q h r e = of-rest (drop at text) refl r (rw part-is at e)
+-- it is what a step by that reader gives of `&text[at..]`, where there is room
+pub taken : (look : Reader Kind) → look ≡ reader → (text : List ℕ) (at : ℕ) (p q : Place) → at < length text → Roomy p (drop at text)
+    → q ≡ steppedBy look p (take (length text - at) (drop at text)) → Taken text at p q
+taken look l text at p q h r e = of-rest (drop at text) refl r (rw (part-is, l) at e)
   where
-    of-rest : (rest : List ℕ) → drop at text ≡ rest → Roomy p rest → q ≡ stepped p rest → Taken text at p q
+    of-rest : (rest : List ℕ) → drop at text ≡ rest → Roomy p rest → q ≡ steppedBy reader p rest → Taken text at p q
     of-rest [] d r e = absurd (omega (arith, length-drop at text, ap length d))
     of-rest (x ∷ xs) d r e =
         let n : size (first reader x xs) ≡ suc (reader x xs .more) = first-size reader-division x xs in

@@ -4,7 +4,9 @@ use mathlib.Core.Bool.{Bool, cond, _&&_}
 use mathlib.Core.List.{List, [], _∷_}
 use lib.ListN.{length}
 use lib.Dec.{leb, ltb, eqb}
-use Rattle.theory.specs.Reader.{first, cut}
+use Rattle.theory.specs.Reader.{Reader, first, cut}
+use Rattle.theory.specs.Table.{Kind}
+use Rattle.theory.specs.Tally.{size}
 use Rattle.theory.specs.Place.{lookup, last}
 use Rattle.terms.specs.Limits.{limit}
 use Rattle.place.specs.Measures.{place, ruler, reader}
@@ -37,10 +39,14 @@ linesByHead x = cond (eqb x 0x0A) 1 0
 abbrev pub wrapped : Place → Place
 wrapped p = place (p .bytes % 2 ^ 64) (p .units % 2 ^ 64) (p .points % 2 ^ 64) (p .lines % 2 ^ 64)
 
--- the place one segment behind another, from which on the rest of the text is given; counts are modulo 2^64
-abbrev pub stepped : Place → List ℕ → Place
-stepped p [] = p
-stepped p (x ∷ xs) = wrapped (ruler .step p (first reader x xs))
+-- the place behind a segment of so many bytes that begins with this one
+abbrev pub behind : Place → ℕ → ℕ → Place
+behind p size head = place (p .bytes + size) (p .units + unitsBySize size) (p .points + 1) (p .lines + linesByHead head)
+
+-- the place one segment behind another by any reader, where the rest of the text is given; counts are modulo 2^64
+abbrev pub steppedBy : Reader Kind → Place → List ℕ → Place
+steppedBy look p [] = p
+steppedBy look p (x ∷ xs) = wrapped (behind p (size (first look x xs)) x)
 
 -- no count can go past the largest number on the way through the rest
 pub record Roomy (p : Place) (rest : List ℕ) : Type 0 where

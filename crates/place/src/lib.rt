@@ -2,8 +2,9 @@
 use terms::Decoder;
 use terms::Refusal;
 ghost use mathlib.Core.Path.{_≡_};
+ghost use Rattle.utf8.specs.Classes.{byClasses};
 ghost use Rattle.place.specs.Measures.{place};
-ghost use Rattle.place.specs.Walk.{number, measure, unitsBySize, linesByHead, stepped, fair, over};
+ghost use Rattle.place.specs.Walk.{number, measure, unitsBySize, linesByHead, steppedBy, fair, over};
 
 // Offsets in the four measures: none is passed for another.
 pub struct Bytes(pub usize);
@@ -106,14 +107,14 @@ pub fn lines_of(head: u8) -> usize
     if head == 0x0A { 1 } else { 0 }
 }
 
-// The place one segment behind p; the rest of the text is given from p on. Counts are modulo 2^64.
-pub fn step(p: Place, rest: &[u8]) -> Place
-    ensures { λ r. ⌜ r ≡ stepped p (now (rest .entry)) ⌝ }
+// The place one segment behind p, by any table of classes; the rest of the text is given from p on. Counts are modulo 2^64.
+pub fn step_by(p: Place, rest: &[u8], classes: &[u8; 256]) -> Place
+    ensures { λ r. ⌜ r ≡ steppedBy (byClasses (now (classes .entry))) p (now (rest .entry)) ⌝ }
 {
     if rest.len() == 0 {
         return p;
     }
-    let size = utf8::segment(rest).size();
+    let size = utf8::segment_by(rest, classes).size();
     Place {
         bytes: std::num::wrapping_add_usize(p.bytes, size),
         units: std::num::wrapping_add_usize(p.units, units_of(size)),

@@ -7,19 +7,22 @@ use place::Points;
 use place::Units;
 use terms::Refusal;
 ghost use mathlib.Core.Path.{_≡_};
+ghost use Rattle.utf8.specs.Bytes.{bytes};
+ghost use Rattle.utf8.specs.Classes.{byClasses};
 ghost use Rattle.place.specs.Cutting.{beginning};
 ghost use Rattle.place.specs.Lookup.{toldPlaced};
 ghost use Rattle.place.specs.Walk.{number, measure, Roomy, reached, lastSays};
 
 // The last place that counts at most so much, from a place on; the text is given from there.
-fn reach(text: &[u8], from: Place, most: Offset) -> Place
+fn reach(text: &[u8], from: Place, most: Offset, classes: &[u8; 256]) -> Place
     requires { ⌜ Roomy from (now text) ⌝ }
+    requires { ⌜ byClasses (now classes) ≡ bytes ⌝ }
     ensures { λ r. ⌜ r ≡ reached (measure most) (number most) from (now (text .entry)) ⌝ }
 {
     let mut p = from;
     let mut at: usize = 0;
     while at < text.len() {
-        let q = place::step(p, &text[at..]);
+        let q = place::step_by(p, &text[at..], classes);
         if most.number() < most.count(q) {
             return p;
         }
@@ -39,14 +42,14 @@ pub fn last(text: &[u8], from: Place, most: Offset) -> Placed
     if !from.fair() {
         return Placed::Refused(Refusal::BadState);
     }
-    Placed::At(reach(text, from, most))
+    Placed::At(reach(text, from, most, &utf8::CLASSES))
 }
 
 // The longest beginning of a text that ends at a boundary and counts at most so much.
 fn cut(text: &[u8], most: Offset) -> &[u8]
     ensures { λ r. ⌜ now r ≡ beginning (measure most) (number most) (now (text .entry)) ⌝ }
 {
-    let end = reach(text, Place::start(), most);
+    let end = reach(text, Place::start(), most, &utf8::CLASSES);
     &text[..end.bytes]
 }
 

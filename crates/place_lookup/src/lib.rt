@@ -9,12 +9,15 @@ use place::Units;
 use terms::Decoder;
 use terms::Refusal;
 ghost use mathlib.Core.Path.{_≡_};
+ghost use Rattle.utf8.specs.Bytes.{bytes};
+ghost use Rattle.utf8.specs.Classes.{byClasses};
 ghost use Rattle.place.specs.Lookup.{toldPlaced, lookupSays};
 ghost use Rattle.place.specs.Walk.{number, measure, Roomy, walkSays, resumeSays};
 
 // Plain lookup from a place on; the text is given from there.
-fn walk(text: &[u8], from: Place, to: Offset) -> Placed
+fn walk(text: &[u8], from: Place, to: Offset, classes: &[u8; 256]) -> Placed
     requires { ⌜ Roomy from (now text) ⌝ }
+    requires { ⌜ byClasses (now classes) ≡ bytes ⌝ }
     ensures { λ r. ⌜ toldPlaced r ≡ walkSays (measure to) (number to) from (now (text .entry)) ⌝ }
 {
     let offset = to.number();
@@ -31,7 +34,7 @@ fn walk(text: &[u8], from: Place, to: Offset) -> Placed
         if at == text.len() {
             return Placed::Refused(Refusal::PastEnd);
         }
-        p = place::step(p, &text[at..]);
+        p = place::step_by(p, &text[at..], classes);
         at = p.bytes - from.bytes;
     }
 }
@@ -43,7 +46,7 @@ fn from_start(text: &[u8], to: Offset) -> Placed
     if Decoder::LIMIT < text.len() {
         return Placed::Refused(Refusal::OverLimit);
     }
-    walk(text, Place::start(), to)
+    walk(text, Place::start(), to, &utf8::CLASSES)
 }
 
 // Plain lookup from any place on, where the text is given from there: refusal 2 and 8 before the walk.
@@ -56,7 +59,7 @@ pub fn resume(text: &[u8], from: Place, to: Offset) -> Placed
     if !from.fair() {
         return Placed::Refused(Refusal::BadState);
     }
-    walk(text, from, to)
+    walk(text, from, to, &utf8::CLASSES)
 }
 
 // The place that counts so many bytes: refusal 2, then 5 inside a segment or 4 past the end.

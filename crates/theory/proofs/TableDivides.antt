@@ -5,13 +5,12 @@ use native.Mathlib.Nat.{le-trans}
 use mathlib.Core.Bool.{Bool, true, false, _&&_, true≢false}
 use mathlib.Core.List.{List, [], _∷_, _++_}
 use mathlib.Core.Option.{none, some}
-use lib.ListN.{length, drop, getD, drop-of-length-le}
-use lib.Seq.{drop-cons}
+use lib.ListN.{length}
 use lib.Dec.{leb}
 use borrow.Author.Tests.{leb-true, le-leb, lt-leb}
 use native.Mathlib.Omega.{arith}
 use Rattle.theory.specs.Reader.{Look}
-use Rattle.theory.specs.Table.{Range, within, Row, Kind, damage, isDamage, longer, want, wantedBehind, lone, read}
+use Rattle.theory.specs.Table.{Range, within, Row, Kind, isDamage, longer, want, wantedBehind, lone, read}
 use Rattle.theory.proofs.Cases.{split, both, All}
 use Rattle.theory.proofs.Divisions.{Division, Holds}
 
@@ -136,15 +135,3 @@ pub begun-none : (pre post : List Row) (x : ℕ) → All (λ v. v .lead .high < 
 begun-none [] [] x a b = refl
 begun-none [] (v ∷ post) x a b = rw (in-under (v .lead) x (b .0)) (begun-none [] post x a (b .1))
 begun-none (v ∷ pre) post x a b = rw (in-over (v .lead) x (a .0)) (begun-none pre post x (a .1) b)
-
--- ---- a begun sequence that comes to the element at n of a text
-
-module _ (r : Range) (rs : List Range) (text : List ℕ) (n : ℕ) where
-  pub want-ended : length text ≤ n → want (r ∷ rs) (drop n text) ≡ record { more = zero; tag = damage; sure = false }
-  want-ended h = rw (drop-of-length-le text h)
-
-  pub want-stopped : n < length text → within r (getD text n 0) ≡ false → want (r ∷ rs) (drop n text) ≡ lone
-  want-stopped h e = rw (drop-cons text n 0 h, e)
-
-  pub want-next : n < length text → within r (getD text n 0) ≡ true → want (r ∷ rs) (drop n text) ≡ longer (want rs (drop (suc n) text))
-  want-next h e = rw (drop-cons text n 0 h, e)

@@ -14,5 +14,3 @@ pub mod AcceptsWellFormed
 pub mod LoopTells
 -- UTF-8 is a faithful form: a scalar value is encoded as a sequence of some row, and a row's sequence stands for a scalar value
 pub mod FaithfulForm
--- The segment that stands first in a byte text, where its first byte tells it
-pub mod FirstByteTells

@@ -1,10 +1,10 @@
 -- The rows of the byte table: which of them a byte begins, and the laws of a division that follow for byte texts.
-use mathlib.Core.Path.{_≡_, refl, sym, _∙_}
+use mathlib.Core.Path.{_≡_, refl}
 use Prim.Native.Nat.{ℕ, zero, suc, _≤_, _<_}
 use mathlib.Core.Bool.{true, false}
-use mathlib.Core.List.{List, [], _∷_, _++_}
+use mathlib.Core.List.{List, _∷_, _++_}
 use mathlib.Core.Option.{some, none}
-use lib.ListN.{length, getD, take, drop}
+use lib.ListN.{take, drop}
 use native.Mathlib.Omega.{arith}
 use Rattle.theory.specs.Table.{Row, isDamage, wantedBehind}
 use Rattle.theory.specs.Sequence.{Reads}
@@ -14,9 +14,6 @@ use Rattle.theory.proofs.TableDivides.{begun-row, begun-none, table-division, t
 use Rattle.theory.proofs.OneDivision.{Sound, is-sound}
 use Rattle.theory.proofs.TableReads.{table-reads}
 use Rattle.terms.specs.Limits.{mostPending, mostDamaged}
-use Rattle.terms.specs.Told.{toldFirst, firstSays}
-use Rattle.terms.specs.declared.First.the-variants.{Whole, Damage}
-use Rattle.terms.proofs.WalkBySegments.{says-look}
 use Rattle.utf8.specs.Bytes.{rows, bytes}
 
 -- a byte begins row k
@@ -28,16 +25,6 @@ at-row k w e x m = rw e (begun-row (take k rows) w (drop (suc k) rows) x (m .0) 
 pub at-none : (k : ℕ) → rows ≡ take k rows ++ drop k rows → (x : ℕ)
     → All (λ v. v .lead .high < x) (take k rows) × All (λ v. x < v .lead .low) (drop k rows) → wantedBehind rows x ≡ none
 at-none k e x m = rw e (begun-none (take k rows) (drop k rows) x (m .0) (m .1))
-
--- what the reader tells of a text whose first byte begins none, or is whole by itself
-module _ (text : List ℕ) (some-there : 0 < length text) where
-  pub first-alone : wantedBehind rows (getD text 0 0) ≡ none → toldFirst (Damage 1) ≡ firstSays bytes text
-  unfolding bytes
-  first-alone e = sym (says-look bytes text some-there ∙ rw e)
-
-  pub first-whole : wantedBehind rows (getD text 0 0) ≡ some [] → toldFirst (Whole 1) ≡ firstSays bytes text
-  unfolding bytes
-  first-whole e = sym (says-look bytes text some-there ∙ rw e)
 
 -- ---- byte texts are a division; at most 3 bytes are held back, and damage has 1 to 3
 

@@ -3,12 +3,11 @@ use mathlib.Core.Path.{_≡_, refl, sym, ap, _∙_}
 use Prim.Native.Nat.{ℕ, _+_, _-_, _≤_, _<_}
 use mathlib.Core.List.{List, _++_, append-nil}
 use lib.ListN.{length, take, drop, length-drop}
-use lib.Seq.{drop-drop}
 use native.Mathlib.Omega.{arith}
 use Rattle.terms.specs.Form.{converted, pointSays}
 use Rattle.terms.specs.Told.{toldFirst, sizeOf, firstSays}
 use Rattle.terms.specs.declared.First.{First}
-use Rattle.terms.proofs.WalkBySegments.{part-is}
+use Rattle.terms.proofs.WalkBySegments.{part-is, behind-there}
 use Rattle.terms.proofs.WalkWrites.{Met, met, left, left-end, Counted, counted-start, counted-next, counted-end, Wrote, wrote-start, wrote-end, lent, back, filled-on}
 use Rattle.utf8.specs.Bytes.{bytes}
 use Rattle.utf8.specs.Scalar.{utf8}
@@ -21,18 +20,6 @@ use Rattle.utf8_check.specs.declared.pace.Pace.{Pace}
 use Rattle.utf8_repair.specs.Inside.Places.{placesOf}
 use Rattle.utf8_repair.proofs.RunsCopied.{counted-run, wrote-bytes}
 use Rattle.utf8_repair.proofs.SegmentsMended.{Standing, standing}
-
--- ---- the rest of a text from a place on, and what is behind n of its bytes
-
-part-long : (rest : List ℕ) (n : ℕ) → length (lent rest n) ≡ length rest - n
-part-long rest n = ap length (part-is rest n) ∙ length-drop n rest
-
-part-there : (text rest : List ℕ) (at n : ℕ) → rest ≡ drop at text → lent rest n ≡ drop (at + n) text
-part-there text rest at n e = part-is rest n ∙ ap (drop n) e ∙ drop-drop n at text
-
--- there is less of it behind a segment and a run
-pub less : (rest : List ℕ) (n k : ℕ) → 0 < n → n ≤ length rest → length (lent (lent rest n) k) < length rest
-less rest n k h i = omega (arith, part-long rest n, part-long (lent rest n) k)
 
 -- ---- the need
 
@@ -73,14 +60,14 @@ module _ (text rest : List ℕ) (total : ℕ) (c : Counts text rest total) where
     mended = rw (stood .places) at (counted-next utf8 utf8 text (c .at) total (sizeOf r) (stood .point) (c .counted) here)
 
     behind : lent rest (sizeOf r) ≡ drop (c .at + sizeOf r) text
-    behind = part-there text rest (c .at) (sizeOf r) (c .there)
+    behind = behind-there text rest (c .at) (c .there) (sizeOf r)
 
     pub counts-turn : (pace : Pace) (k : ℕ) → k ≡ pacedRun (lent rest (sizeOf r)) pace → Counts text (lent (lent rest (sizeOf r)) k) (total + (placesOf r + k))
     counts-turn pace k e =
         let s : total + placesOf r + k ≡ total + (placesOf r + k) = omega arith in
         record {
           at = c .at + sizeOf r + k;
-          there = part-there text (lent rest (sizeOf r)) (c .at + sizeOf r) k behind;
+          there = behind-there text (lent rest (sizeOf r)) (c .at + sizeOf r) behind k;
           counted = rw s at (counted-run text (lent rest (sizeOf r)) (c .at + sizeOf r) pace k (here .inside) behind e (total + placesOf r) mended);
         }
 
@@ -111,14 +98,14 @@ module _ (text out₀ rest out : List ℕ) (done : ℕ) (c : Writing text out₀
           wrote-pass utf8 utf8 text out₀ out (c .at) done (c .wrote) room ys n put (rw (part-is text (c .at), ← c .there) q)
 
       next : lent rest n ≡ drop (c .at + n) text
-      next = part-there text rest (c .at) n (c .there)
+      next = behind-there text rest (c .at) (c .there) n
 
       pub writing-turn : (pace : Pace) (k : ℕ) → k ≡ pacedRun (lent rest n) pace → (zs : List ℕ)
           → zs ≡ take (length (lent (back out done ys) (done + put))) (take k (lent rest n)) ++ drop (length (take k (lent rest n))) (lent (back out done ys) (done + put))
           → Writing text out₀ (lent (lent rest n) k) (back (back out done ys) (done + put) zs) (done + put + k)
       writing-turn pace k e zs z = record {
         at = c .at + n + k;
-        there = part-there text (lent rest n) (c .at + n) k next;
+        there = behind-there text (lent rest n) (c .at + n) next k;
         wrote = wrote-bytes text (lent rest n) (c .at + n) pace k (mended-wrote .inside) next e out₀ (back out done ys) (done + put) mended-wrote room zs z;
       }
 

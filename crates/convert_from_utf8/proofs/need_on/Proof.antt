@@ -11,7 +11,8 @@ use Rattle.utf8.proofs.ClassesRead.{table, by-table}
 use Rattle.utf8_check.proofs.RunDivides.{Run}
 use Rattle.utf8_check.proofs.RunsPassed.{run-paced}
 use Rattle.utf16.specs.Scalar.{utf16}
-use Rattle.convert_from_utf8.proofs.RunsSpelled.{Counting, counted-few, run-undamaged, behind, behind-long, part-long, part-end, behind-is, met-there, passed-there, counted-on}
+use Rattle.terms.proofs.WalkBySegments.{behind, behind-long, behind-there}
+use Rattle.convert_from_utf8.proofs.RunsSpelled.{Counting, counted-few, run-undamaged, part-long, part-end, met-there, passed-there, counted-on}
 use borrow.Author.Needs.{needs}
 use Rattle.convert_from_utf8.proofs.need_on.Statement.{statement}
 use Rattle.convert_from_utf8.proofs.need_on.Tie as tie
@@ -115,7 +116,7 @@ after q =
     let text = l .before .before .args .text .now in
     let size = p .point-by .result .size in
     let v = l .loop .inv in
-    let b = passed-there text (behind (l .loop .rest .now) size) (v .at + size) (behind-is text (l .loop .rest .now) (v .at) (v .rest-is) size) (here p .inside) (r .paced-run .result) (ran r) in
+    let b = passed-there text (behind (l .loop .rest .now) size) (v .at + size) (behind-there text (l .loop .rest .now) (v .at) (v .rest-is) size) (here p .inside) (r .paced-run .result) (ran r) in
     counted-on text (v .at + size) (r .paced-run .result) _ b (l .loop .total + s .places .result) (q .need .result) (next s) (q .need .ensures)
 
 add-total-2 : tie.Need-add-total-2 Inv-loop μ-loop
@@ -155,7 +156,7 @@ loop-again c =
     record {
       reads = v .reads;
       at = v .at + size + r .paced-run .result;
-      rest-is = behind-is text (behind (l .loop .rest .now) size) (v .at + size) (behind-is text (l .loop .rest .now) (v .at) (v .rest-is) size) (r .paced-run .result);
+      rest-is = behind-there text (behind (l .loop .rest .now) size) (v .at + size) (behind-there text (l .loop .rest .now) (v .at) (v .rest-is) size) (r .paced-run .result);
       counted = after q;
     }
 

@@ -4,13 +4,13 @@ use Prim.Native.Nat.{_+_}
 use lib.ListN.{length}
 use lib.Seq.{length-take-le}
 use native.Mathlib.Omega.{arith}
-use Rattle.terms.proofs.WalkBySegments.{part-is}
+use Rattle.terms.proofs.WalkBySegments.{part-is, behind}
 use Rattle.terms.proofs.WalkWrites.{Counted, counted-end}
 use Rattle.utf8.specs.Scalar.{utf8}
 use Rattle.utf8_check.proofs.RunDivides.{Run}
 use Rattle.utf8_check.proofs.StandingIsWhole.{run-at}
 use Rattle.utf16.specs.Scalar.{utf16}
-use Rattle.convert_from_utf8.proofs.RunsSpelled.{counted-few, run-undamaged, behind, part-end, passed-rest, counted-on, first-counted}
+use Rattle.convert_from_utf8.proofs.RunsSpelled.{counted-few, run-undamaged, part-end, passed-rest, counted-on, first-counted}
 use borrow.Author.Needs.{needs}
 use Rattle.convert_from_utf8.proofs.need_units.Statement.{statement}
 use Rattle.convert_from_utf8.proofs.need_units.Tie as tie

@@ -13,7 +13,8 @@ use Rattle.utf8_check.proofs.RunsPassed.{run-paced}
 use Rattle.utf16.specs.Scalar.{utf16}
 use Rattle.convert_point.proofs.PointWritten.{wrote-put}
 use Rattle.convert_from_utf8.specs.Inside.Spell.{spelled}
-use Rattle.convert_from_utf8.proofs.RunsSpelled.{Writing, behind, behind-long, part-long, part-end, behind-is, met-there, passed-spelled, room-on, wrote-on}
+use Rattle.terms.proofs.WalkBySegments.{behind, behind-long, behind-there}
+use Rattle.convert_from_utf8.proofs.RunsSpelled.{Writing, part-long, part-end, met-there, passed-spelled, room-on, wrote-on}
 use borrow.Author.Needs.{needs}
 use Rattle.convert_from_utf8.proofs.write_on.Statement.{statement}
 use Rattle.convert_from_utf8.proofs.write_on.Tie as tie
@@ -136,7 +137,7 @@ passes r =
     let v = l .loop .inv in
     let text = l .before .before .before .args .text .now in
     let size = p .point-by .result .size in
-    passed-spelled text (behind (l .loop .rest .now) size) (v .at + size) (behind-is text (l .loop .rest .now) (v .at) (v .rest-is) size) (here p .inside) (r .paced-run .result) (ran r)
+    passed-spelled text (behind (l .loop .rest .now) size) (v .at + size) (behind-there text (l .loop .rest .now) (v .at) (v .rest-is) size) (here p .inside) (r .paced-run .result) (ran r)
 
 spell-run-requires : tie.Need-spell-run-requires Inv-loop μ-loop
 spell-run-requires c κs =
@@ -202,7 +203,7 @@ loop-again c =
     record {
       reads = v .reads;
       at = v .at + size + r .paced-run .result;
-      rest-is = behind-is text (behind (l .loop .rest .now) size) (v .at + size) (behind-is text (l .loop .rest .now) (v .at) (v .rest-is) size) (r .paced-run .result);
+      rest-is = behind-there text (behind (l .loop .rest .now) size) (v .at + size) (behind-there text (l .loop .rest .now) (v .at) (v .rest-is) size) (r .paced-run .result);
       wrote = after s;
     }
 

@@ -5,13 +5,13 @@ use lib.ListN.{length}
 use lib.Seq.{length-take-le}
 use native.Mathlib.Omega.{arith}
 use Rattle.terms.specs.Form.{converted}
-use Rattle.terms.proofs.WalkBySegments.{part-is}
+use Rattle.terms.proofs.WalkBySegments.{part-is, behind}
 use Rattle.terms.proofs.WalkWrites.{Passed, left, back, Wrote, wrote-end}
 use Rattle.utf8.specs.Scalar.{utf8}
 use Rattle.utf8_check.proofs.RunDivides.{Run}
 use Rattle.utf8_check.proofs.StandingIsWhole.{run-at}
 use Rattle.utf16.specs.Scalar.{utf16}
-use Rattle.convert_from_utf8.proofs.RunsSpelled.{behind, part-end, passed-rest, room-on, wrote-on, first-room, first-wrote}
+use Rattle.convert_from_utf8.proofs.RunsSpelled.{part-end, passed-rest, room-on, wrote-on, first-room, first-wrote}
 use borrow.Author.Needs.{needs}
 use Rattle.convert_from_utf8.proofs.write_units.Statement.{statement}
 use Rattle.convert_from_utf8.proofs.write_units.Tie as tie

@@ -27,8 +27,8 @@ add-taken c =
     let a = z .args in
     omega (arith, join-within (a .state) (a .piece .now) (a .list .now) (a .seam .now) (z .pre .0) (z .pre .1) (three z))
 
-segment-requires : tie.Need-segment-requires
-segment-requires c κs = search needs
+first-of-requires : tie.Need-first-of-requires
+first-of-requires c κs = search needs
 
 settled-size-requires : tie.Need-settled-size-requires
 settled-size-requires c κs = search needs
@@ -45,7 +45,7 @@ size-is : (c : tie.After-settled-size)
 size-is c =
     let s = c .before in
     let seam = s .before .before .before .before .before .before .args .seam .now in
-    c .settled-size .ensures ∙ told-size (s .segment .result) seam (s .segment .ensures)
+    c .settled-size .ensures ∙ told-size (s .first-of .result) seam (s .first-of .ensures)
 
 returns : tie.Need-returns
 returns c =
@@ -98,9 +98,9 @@ feed-rest-requires c κs =
     let s = e .before .before .before in
     let z = s .before .before .before .before .before .before in
     let a = z .args in
-    subst (λ (rest : List ℕ). Rests (a .state) (s .segment .result) (a .seam .now) rest (a .list .now)) (sym (rest-is e))
+    subst (λ (rest : List ℕ). Rests (a .state) (s .first-of .result) (a .seam .now) rest (a .list .now)) (sym (rest-is e))
     (join-rests (a .state) (a .piece .now) (a .list .now) (a .seam .now) (z .pre .0) (z .pre .1) (three z) (over e)
-    (s .segment .result) (s .segment .ensures))
+    (s .first-of .result) (s .first-of .ensures))
 
 same-length : tie.Need-same-length
 same-length c = search needs
@@ -127,7 +127,7 @@ join-spec =
     tie.close
     (tie.spec
     add-taken
-    segment-requires
+    first-of-requires
     settled-size-requires
     open-tally-requires
     keep-requires

@@ -30,8 +30,8 @@ add-taken c =
     let a = z .args in
     omega (arith, join-within (a .state) (a .piece .now) (a .list .now) (a .seam .now) (z .pre .0) (z .pre .1) (three z))
 
-segment-requires : tie.Need-segment-requires
-segment-requires c κs = search needs
+first-of-requires : tie.Need-first-of-requires
+first-of-requires c κs = search needs
 
 settled-size-requires : tie.Need-settled-size-requires
 settled-size-requires c κs = search needs
@@ -47,7 +47,7 @@ start t = t .before .before .before .before .before .before .before
 
 -- how many bytes are settled at the seam
 size-is : (t : tie.After-settled-size) → t .settled-size .result ≡ total size (firstSettled (start t .args .seam .now))
-size-is t = let s = t .before in t .settled-size .ensures ∙ told-size (s .segment .result) (start t .args .seam .now) (s .segment .ensures)
+size-is t = let s = t .before in t .settled-size .ensures ∙ told-size (s .first-of .result) (start t .args .seam .now) (s .first-of .ensures)
 
 returns : tie.Need-returns
 returns c =
@@ -95,7 +95,7 @@ feed-rest-requires c κs =
     let a = z .args in
     rw (part-is, size-is t)
     (join-rests (a .state) (a .piece .now) (a .list .now) (a .seam .now) (z .pre .0) (z .pre .1) (three z) (over e)
-    (t .before .segment .result) (t .before .segment .ensures))
+    (t .before .first-of .result) (t .before .first-of .ensures))
 
 same-length : tie.Need-same-length
 same-length c = search needs
@@ -123,7 +123,7 @@ join-spec =
     tie.close
     (tie.spec
     add-taken
-    segment-requires
+    first-of-requires
     settled-size-requires
     open-tally-requires
     keep-requires

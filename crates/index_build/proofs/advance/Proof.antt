@@ -3,8 +3,8 @@ use mathlib.Core.Path.{_≡_, ap, _∙_}
 use Prim.Native.Nat.{_+_}
 use native.Mathlib.Omega.{arith}
 use Rattle.place.specs.Measures.{place}
+use Rattle.place.specs.Walk.{behind}
 use Rattle.index_checkpoint.specs.Marks.{markedOnce}
-use Rattle.index_build.specs.Inside.Steps.{behind}
 use Rattle.index_build.proofs.CheckpointPassed.{between-marked, units-few, lines-few, behind-between}
 use borrow.Author.Needs.{needs}
 use Rattle.index_build.proofs.advance.Statement.{statement}

@@ -17,27 +17,27 @@ use Rattle.index_build.proofs.stretch.Tie as tie
 
 -- where none was passed all are left to pass
 abbrev Inv-loop : tie.InvT-loop
-Inv-loop text most row₀ p₀ at₀ left₀ row p at left = Walked text p₀ row₀ row p at × (at ≡ 0 → left ≡ most)
+Inv-loop text most row₀ classes p₀ at₀ left₀ row p at left = Walked text p₀ row₀ row p at × (at ≡ 0 → left ≡ most)
 
 abbrev μ-loop : tie.MeasureT-loop
-μ-loop text most row₀ p₀ at₀ left₀ row p at left = left
+μ-loop text most row₀ classes p₀ at₀ left₀ row p at left = left
 
 loop-holds : tie.Need-loop-holds Inv-loop μ-loop
 loop-holds c =
     let z = c .before .before in
-    (walked-start (z .args .text .now) (z .args .from) (z .args .row .now) (z .pre .walks), λ e. search needs)
+    (walked-start (z .args .text .now) (z .args .from) (z .args .row .now) (z .pre .0 .walks), λ e. search needs)
 
-sub-segment : tie.Need-sub-segment Inv-loop μ-loop
-sub-segment c = search needs
+sub-segment-by : tie.Need-sub-segment-by Inv-loop μ-loop
+sub-segment-by c = search needs
 
-part-segment-start : tie.Need-part-segment-start Inv-loop μ-loop
-part-segment-start c = search needs
+part-segment-by-start : tie.Need-part-segment-by-start Inv-loop μ-loop
+part-segment-by-start c = search needs
 
-part-segment-end : tie.Need-part-segment-end Inv-loop μ-loop
-part-segment-end c = search needs
+part-segment-by-end : tie.Need-part-segment-by-end Inv-loop μ-loop
+part-segment-by-end c = search needs
 
-segment-requires : tie.Need-segment-requires Inv-loop μ-loop
-segment-requires c κs = search needs
+segment-by-requires : tie.Need-segment-by-requires Inv-loop μ-loop
+segment-by-requires c κs = search needs
 
 settled-size-requires : tie.Need-settled-size-requires Inv-loop μ-loop
 settled-size-requires c κs = search needs
@@ -50,7 +50,7 @@ size-is c =
     let s = c .before in
     let l = s .before .before .before in
     c .settled-size .ensures
-    ∙ told-size (s .segment .result) (drop (l .loop .at) (l .before .before .before .args .text .now)) (rw part-is at (s .segment .ensures))
+    ∙ told-size (s .segment-by .result) (drop (l .loop .at) (l .before .before .before .args .text .now)) (rw (part-is, l .before .before .before .pre .1) at (s .segment-by .ensures))
 
 same-length : tie.Need-same-length Inv-loop μ-loop
 same-length c = c .before .before .before .before .before .loop .inv .0 .long
@@ -73,14 +73,14 @@ shared-slice-read-advance c =
     let e = c .before in
     let l = e .before .before .before .before .before in
     let z = l .before .before .before in
-    walked-some (z .args .text .now) (z .args .from) (z .args .row .now) (z .pre .walks) (l .loop .inv .0) (some e)
+    walked-some (z .args .text .now) (z .args .from) (z .args .row .now) (z .pre .0 .walks) (l .loop .inv .0) (some e)
 
 advance-requires : tie.Need-advance-requires Inv-loop μ-loop
 advance-requires c κs =
     let e = c .before .before in
     let l = e .before .before .before .before .before in
     let z = l .before .before .before in
-    rw (size-is (e .before)) (walked-ahead (z .args .text .now) (z .args .from) (z .args .row .now) (z .pre .walks) (l .loop .inv .0) (some e))
+    rw (size-is (e .before)) (walked-ahead (z .args .text .now) (z .args .from) (z .args .row .now) (z .pre .0 .walks) (l .loop .inv .0) (some e))
 
 -- behind the segment
 turned : (c : tie.After-advance Inv-loop μ-loop)
@@ -96,7 +96,7 @@ turned c =
     let text = z .args .text .now in
     let x : getD text (l .loop .at) 0 ≡ getD (drop (l .loop .at) text) 0 0 = rw (getD-drop, add-zero) in
     rw (size-is (e .before))
-    (walked-next text (z .args .from) (z .args .row .now) (z .pre .walks) (l .loop .inv .0) (some e) x (rw (size-is (e .before)) at (c .advance .ensures)))
+    (walked-next text (z .args .from) (z .args .row .now) (z .pre .0 .walks) (l .loop .inv .0) (some e) x (rw (size-is (e .before)) at (c .advance .ensures)))
 
 add-at : tie.Need-add-at Inv-loop μ-loop
 add-at c = let t = turned (c .before .before) in omega (arith, t .inside)
@@ -118,7 +118,7 @@ returns-2 c =
     let l = c .before in
     let z = l .before .before .before in
     walked-stretched (z .args .text .now) (z .args .from) (z .args .row .now) (l .loop .inv .0)
-    (λ e. absurd (omega (arith, l .loop .inv .1 e, z .pre .some, c .loop-test .left)))
+    (λ e. absurd (omega (arith, l .loop .inv .1 e, z .pre .0 .some, c .loop-test .left)))
 
 pub stretch-spec : {M : Type 1} → statement M
 stretch-spec =
@@ -127,10 +127,10 @@ stretch-spec =
     Inv-loop
     μ-loop
     loop-holds
-    sub-segment
-    part-segment-start
-    part-segment-end
-    segment-requires
+    sub-segment-by
+    part-segment-by-start
+    part-segment-by-end
+    segment-by-requires
     settled-size-requires
     same-length
     returns

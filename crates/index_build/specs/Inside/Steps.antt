@@ -12,8 +12,8 @@ use Rattle.theory.specs.Tally.{written, total, size}
 use Rattle.theory.specs.Index.{Built, tab, marks, add}
 use Rattle.terms.specs.Limits.{limit, mostPending}
 use Rattle.utf8_pending.specs.Tail.{firstSettled, four}
-use Rattle.place.specs.Measures.{place, ruler, reader, longest}
-use Rattle.place.specs.Walk.{unitsBySize, linesByHead}
+use Rattle.place.specs.Measures.{ruler, reader, longest}
+use Rattle.place.specs.Walk.{behind}
 use Rattle.place.specs.Lookup.{fourCounts}
 use Rattle.place.specs.declared.Place.{Place}
 use Rattle.index_checkpoint.specs.Checkpoints.{spacing, width, needed}
@@ -39,10 +39,6 @@ passed p q =
 
 abbrev pub marked : List ℕ → Place → Place → List ℕ
 marked row p q = sets row (width * marks spacing (p .bytes)) (written fourCounts (passed p q))
-
--- the place behind a segment of so many bytes that begins with this one
-abbrev pub behind : Place → ℕ → ℕ → Place
-behind p size head = place (p .bytes + size) (p .units + unitsBySize size) (p .points + 1) (p .lines + linesByHead head)
 
 pub record Ahead (p : Place) (size : ℕ) (row : List ℕ) : Type 0 where
   pub fits : Fits p

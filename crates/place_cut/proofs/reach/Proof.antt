@@ -11,25 +11,25 @@ use Rattle.place_cut.proofs.reach.Statement.{statement}
 use Rattle.place_cut.proofs.reach.Tie as tie
 
 abbrev Inv-loop : tie.InvT-loop
-Inv-loop text from most p₀ at₀ p at = Keeps (measure most) (number most) from text at p
+Inv-loop text from most classes p₀ at₀ p at = Keeps (measure most) (number most) from text at p
 
 abbrev μ-loop : tie.MeasureT-loop
-μ-loop text from most p₀ at₀ p at = length text - at
+μ-loop text from most classes p₀ at₀ p at = length text - at
 
 loop-holds : tie.Need-loop-holds Inv-loop μ-loop
-loop-holds c = reached-start _ (c .before .pre)
+loop-holds c = reached-start _ (c .before .pre .0)
 
-sub-step : tie.Need-sub-step Inv-loop μ-loop
-sub-step c = search needs
+sub-step-by : tie.Need-sub-step-by Inv-loop μ-loop
+sub-step-by c = search needs
 
-part-step-start : tie.Need-part-step-start Inv-loop μ-loop
-part-step-start c = search needs
+part-step-by-start : tie.Need-part-step-by-start Inv-loop μ-loop
+part-step-by-start c = search needs
 
-part-step-end : tie.Need-part-step-end Inv-loop μ-loop
-part-step-end c = search needs
+part-step-by-end : tie.Need-part-step-by-end Inv-loop μ-loop
+part-step-by-end c = search needs
 
-step-requires : tie.Need-step-requires Inv-loop μ-loop
-step-requires c κs = search needs
+step-by-requires : tie.Need-step-by-requires Inv-loop μ-loop
+step-by-requires c κs = search needs
 
 number-requires : tie.Need-number-requires Inv-loop μ-loop
 number-requires c κs = search needs
@@ -38,13 +38,13 @@ count-requires : tie.Need-count-requires Inv-loop μ-loop
 count-requires c κs = search needs
 
 -- one segment more
-turned : (c : tie.After-step Inv-loop μ-loop)
-    → let l = c .before .before .before in Taken (l .before .before .args .text .now) (l .loop .at) (l .loop .p) (c .step .result)
+turned : (c : tie.After-step-by Inv-loop μ-loop)
+    → let l = c .before .before .before in Taken (l .before .before .args .text .now) (l .loop .at) (l .loop .p) (c .step-by .result)
 turned c =
     let t = c .before .before in
     let l = t .before in
-    taken (l .before .before .args .text .now) (l .loop .at) (l .loop .p) (c .step .result) (t .loop-test .taken)
-    (l .loop .inv .roomy) (c .step .ensures)
+    taken _ (l .before .before .pre .1) (l .before .before .args .text .now) (l .loop .at) (l .loop .p) (c .step-by .result) (t .loop-test .taken)
+    (l .loop .inv .roomy) (c .step-by .ensures)
 
 returns : tie.Need-returns Inv-loop μ-loop
 returns c =
@@ -90,10 +90,10 @@ reach-spec =
     Inv-loop
     μ-loop
     loop-holds
-    sub-step
-    part-step-start
-    part-step-end
-    step-requires
+    sub-step-by
+    part-step-by-start
+    part-step-by-end
+    step-by-requires
     number-requires
     count-requires
     returns

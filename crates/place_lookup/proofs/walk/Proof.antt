@@ -11,16 +11,16 @@ use Rattle.place_lookup.proofs.walk.Statement.{statement}
 use Rattle.place_lookup.proofs.walk.Tie as tie
 
 abbrev Inv-loop : tie.InvT-loop
-Inv-loop text from to offset p₀ at₀ p at = Seeks (measure to) (number to) from text at p
+Inv-loop text from to classes offset p₀ at₀ p at = Seeks (measure to) (number to) from text at p
 
 abbrev μ-loop : tie.MeasureT-loop
-μ-loop text from to offset p₀ at₀ p at = length text - at
+μ-loop text from to classes offset p₀ at₀ p at = length text - at
 
 number-requires : tie.Need-number-requires Inv-loop μ-loop
 number-requires c κs = search needs
 
 loop-holds : tie.Need-loop-holds Inv-loop μ-loop
-loop-holds c = reached-start _ (c .before .before .pre)
+loop-holds c = reached-start _ (c .before .before .pre .0)
 
 count-requires : tie.Need-count-requires Inv-loop μ-loop
 count-requires c κs = search needs
@@ -52,14 +52,14 @@ returns-3 c =
     let to = l .before .before .before .args .to in
     seeks-past (measure to) (number to) (l .loop .inv) (short (c .before)) (c .if3 .taken)
 
-sub-step : tie.Need-sub-step Inv-loop μ-loop
-sub-step c = search needs
+sub-step-by : tie.Need-sub-step-by Inv-loop μ-loop
+sub-step-by c = search needs
 
-part-step-start : tie.Need-part-step-start Inv-loop μ-loop
-part-step-start c = search needs
+part-step-by-start : tie.Need-part-step-by-start Inv-loop μ-loop
+part-step-by-start c = search needs
 
-part-step-end : tie.Need-part-step-end Inv-loop μ-loop
-part-step-end c = search needs
+part-step-by-end : tie.Need-part-step-by-end Inv-loop μ-loop
+part-step-by-end c = search needs
 
 -- there is text left
 more : (c : tie.Else3 Inv-loop μ-loop)
@@ -68,17 +68,17 @@ more c =
     let l = c .before .before .before .before in
     omega (arith, l .loop .inv .inside, c .if3 .left)
 
-step-requires : tie.Need-step-requires Inv-loop μ-loop
-step-requires c κs = search needs
+step-by-requires : tie.Need-step-by-requires Inv-loop μ-loop
+step-by-requires c κs = search needs
 
 -- one segment more
-turned : (c : tie.After-step Inv-loop μ-loop)
+turned : (c : tie.After-step-by Inv-loop μ-loop)
     → let l = c .before .before .before .before .before .before in
-    Taken (l .before .before .before .args .text .now) (l .loop .at) (l .loop .p) (c .step .result)
+    Taken (l .before .before .before .args .text .now) (l .loop .at) (l .loop .p) (c .step-by .result)
 turned c =
     let l = c .before .before .before .before .before .before in
-    taken (l .before .before .before .args .text .now) (l .loop .at) (l .loop .p) (c .step .result) (more (c .before .before))
-    (l .loop .inv .roomy) (c .step .ensures)
+    taken _ (l .before .before .before .pre .1) (l .before .before .before .args .text .now) (l .loop .at) (l .loop .p) (c .step-by .result) (more (c .before .before))
+    (l .loop .inv .roomy) (c .step-by .ensures)
 
 sub-at : tie.Need-sub-at Inv-loop μ-loop
 sub-at c =
@@ -112,10 +112,10 @@ walk-spec =
     returns
     returns-2
     returns-3
-    sub-step
-    part-step-start
-    part-step-end
-    step-requires
+    sub-step-by
+    part-step-by-start
+    part-step-by-end
+    step-by-requires
     sub-at
     loop-less
     loop-again)

@@ -1,177 +1,140 @@
--- `tally::walk` meets its contract: so much is tallied, and the rest adds what is settled of it.
-use Prim.Native.Nat.{ℕ, _+_, _-_}
-use mathlib.Core.Path.{_≡_, refl, sym, _∙_}
+-- `tally::walk` meets its contract: the first run is tallied, and then what is settled of the rest.
+use Prim.Native.Nat.{ℕ, _+_}
+use mathlib.Core.Path.{_≡_, refl, sym, subst}
 use mathlib.Core.List.{List}
-use lib.ListN.{length, drop}
+use lib.ListN.{length, drop, length-drop}
 use native.Mathlib.Omega.{arith}
 use borrow.Author.Needs.{needs}
-use Rattle.terms.specs.Told.{toldFirst, firstSays}
+use Rattle.theory.specs.Tally.{Log}
+use Rattle.theory.proofs.Divisions.{parts-size}
 use Rattle.terms.proofs.WalkBySegments.{part-is}
 use Rattle.utf8.specs.Bytes.{bytes}
-use Rattle.utf8.proofs.RowsOfBytes.{bytes-division, whole-sure}
-use Rattle.utf8_check.proofs.RunDivides.{Run, run-whole}
-use Rattle.utf8_check.proofs.RunsPassed.{run-there}
-use Rattle.decoder_shared.proofs.TalliedWalk.{Walked, walked-start, walked-run, run-fits, walked-told, walked-end}
+use Rattle.utf8_check.proofs.RunDivides.{Run}
+use Rattle.utf8_check.proofs.StandingIsWhole.{run-at}
+use Rattle.decoder_shared.specs.Inside.Steps.{Fits, Settles}
 use Rattle.decoder_to_utf16.specs.Inside.Tallying.{logOf}
-use Rattle.decoder_to_utf16.proofs.FirstSettled.{first-size, first-none, told-inside}
+use Rattle.decoder_to_utf16.proofs.TallyOfBytes.{empty-settled, Left, left-start, left-fits, left-settles, run-room, run-next}
 use Rattle.decoder_to_utf16.proofs.tally.walk.Statement.{statement}
 use Rattle.decoder_to_utf16.proofs.tally.walk.Tie as tie
 
-abbrev Inv-loop : tie.InvT-loop
-Inv-loop text room list₀ tally₀ at₀ pace₀ list tally at pace =
-    (length list ≡ length list₀) × Walked bytes-division room text (logOf tally₀ list₀) at (logOf tally list)
+abbrev entry : tie.Start → Log
+entry z = logOf (z .args .tally) (z .args .list .now)
 
-abbrev μ-loop : tie.MeasureT-loop
-μ-loop text room list₀ tally₀ at₀ pace₀ list tally at pace = length text - at
-
-loop-holds : tie.Need-loop-holds Inv-loop μ-loop
-loop-holds c =
-    let z = c .before .before in
-    let a = z .args in
-    (refl, walked-start bytes-division (a .room) (a .text .now) (logOf (a .tally) (a .list .now)) (z .pre) refl)
-
-sub-paced-run : tie.Need-sub-paced-run Inv-loop μ-loop
-sub-paced-run c = c .loop .inv .1 .inside
-
-part-paced-run-start : tie.Need-part-paced-run-start Inv-loop μ-loop
-part-paced-run-start c = c .loop .inv .1 .inside
-
-part-paced-run-end : tie.Need-part-paced-run-end Inv-loop μ-loop
-part-paced-run-end c = search needs
-
-paced-run-requires : tie.Need-paced-run-requires Inv-loop μ-loop
-paced-run-requires c κs = search needs
-
--- the run stands there
-there : (c : tie.After-paced-run Inv-loop μ-loop)
-    → let l = c .before .before in
-    Run (drop (l .loop .at) (l .before .before .before .args .text .now)) (c .paced-run .result)
-there c =
-    let l = c .before .before in
-    run-there (l .before .before .before .args .text .now) (l .loop .at) (l .loop .pace) (c .paced-run .result) (l .loop .inv .1 .inside) (c .paced-run .ensures)
-
-pass-requires : tie.Need-pass-requires Inv-loop μ-loop
-pass-requires c κs =
-    let l = c .before .before in
-    let a = l .before .before .before .args in
-    run-fits bytes-division (a .room) (a .text .now) (logOf (a .tally) (a .list .now)) (l .loop .inv .1) (c .paced-run .result) (there c .inside)
-
--- behind the run
-ran : (p : tie.After-pass Inv-loop μ-loop)
-    → let c = p .before in
-    let l = c .before .before in
-    let a = l .before .before .before .args in
-    Walked bytes-division (a .room) (a .text .now) (logOf (a .tally) (a .list .now)) (l .loop .at + c .paced-run .result) (logOf (p .pass .result) (l .loop .list))
-ran p =
-    let c = p .before in
-    let l = c .before .before in
-    let a = l .before .before .before .args in
-    let t = there c in
-    walked-run bytes-division (a .room) (a .text .now) (logOf (a .tally) (a .list .now)) (l .loop .inv .1) whole-sure (c .paced-run .result) (t .inside)
-    (run-whole (drop (l .loop .at) (a .text .now)) (c .paced-run .result) t) (logOf (p .pass .result) (l .loop .list)) (p .pass .ensures (l .loop .list))
-
-add-at : tie.Need-add-at Inv-loop μ-loop
-add-at c = let k = ran c in omega (arith, k .inside)
-
-sub-segment : tie.Need-sub-segment Inv-loop μ-loop
-sub-segment c = ran c .inside
-
-part-segment-start : tie.Need-part-segment-start Inv-loop μ-loop
-part-segment-start c = ran c .inside
-
-part-segment-end : tie.Need-part-segment-end Inv-loop μ-loop
-part-segment-end c = search needs
-
-segment-requires : tie.Need-segment-requires Inv-loop μ-loop
-segment-requires c κs = search needs
-
-settled-size-requires : tie.Need-settled-size-requires Inv-loop μ-loop
-settled-size-requires c κs = search needs
-
--- what was told of the rest of the text
-abbrev rest : tie.After-pass Inv-loop μ-loop → List ℕ
-rest p =
-    let r = p .before in
-    let l = r .before .before in
-    drop (l .loop .at + r .paced-run .result) (l .before .before .before .args .text .now)
-
-seen : (s : tie.After-segment Inv-loop μ-loop) → toldFirst (s .segment .result) ≡ firstSays bytes (rest (s .before .before))
-seen s = rw part-is at (s .segment .ensures)
-
-same-length : tie.Need-same-length Inv-loop μ-loop
-same-length c = c .before .before .before .before .before .before .before .loop .inv .0
-
-returns : tie.Need-returns Inv-loop μ-loop
+returns : tie.Need-returns
 returns c =
-    let s = c .before .before in
-    let p = s .before .before in
-    let l = p .before .before .before in
-    let a = l .before .before .before .args in
-    walked-end bytes-division (a .room) (a .text .now) (logOf (a .tally) (a .list .now)) (ran p)
-    (first-none (s .segment .result) (rest p) (seen s) (sym (c .before .settled-size .ensures) ∙ c .if1 .taken))
+    let z = c .before .before .before in
+    empty-settled (z .args .room) (z .args .text .now) (c .if1 .taken) (entry z)
 
-count-requires : tie.Need-count-requires Inv-loop μ-loop
-count-requires c κs =
-    let s = c .before .before .before in
-    let f = ran (s .before .before) .fits in
-    record { row = f .row; sums = omega (arith, f .sums, told-inside (s .segment .result) (rest (s .before .before)) (seen s)); counts = f .counts }
+whole-run-requires : tie.Need-whole-run-requires
+whole-run-requires c κs = search needs
 
--- and behind the segment
-counted : (k : tie.After-count Inv-loop μ-loop)
-    → let t = k .before .before .before in
-    let r = t .before .before .before .before in
-    let l = r .before .before in
-    let a = l .before .before .before .args in
-    Walked bytes-division (a .room) (a .text .now) (logOf (a .tally) (a .list .now)) (l .loop .at + r .paced-run .result + t .settled-size .result)
-    (logOf (k .count .result) (k .count .last .1 .1 .1 .0))
-counted k =
-    let t = k .before .before .before in
-    let s = t .before in
-    let p = s .before .before in
-    let l = p .before .before .before in
-    let a = l .before .before .before .args in
-    rw (t .settled-size .ensures ∙ first-size (s .segment .result) (rest p) (seen s))
-    (walked-told bytes-division (a .room) (a .text .now) (logOf (a .tally) (a .list .now)) (ran p) (s .segment .result) (seen s) _ (k .count .ensures))
+abbrev start : tie.After-whole-run → tie.Start
+start r = r .before .before .before .before
 
-add-at-2 : tie.Need-add-at-2 Inv-loop μ-loop
-add-at-2 c = let k = counted (c .before .before) in omega (arith, k .inside)
+-- the first run stands there
+whole : (r : tie.After-whole-run) → Run (start r .args .text .now) (r .whole-run .result)
+whole r = run-at (start r .args .text .now) (r .whole-run .result) (r .whole-run .ensures)
 
-pace-behind-requires : tie.Need-pace-behind-requires Inv-loop μ-loop
-pace-behind-requires c κs = search needs
+begun : (z : tie.Start) → Left (z .args .room) (z .args .text .now) (entry z) (z .args .text .now) (entry z)
+begun z = left-start (z .args .room) (z .args .text .now) (entry z) (z .pre) refl
 
-loop-less : tie.Need-loop-less Inv-loop μ-loop
-loop-less c =
-    let k = c .before .before .before in
-    let w = counted k in
-    omega (arith, w .inside, k .before .before .if1 .left)
+pass-requires : tie.Need-pass-requires
+pass-requires r κs =
+    let z = start r in
+    run-room (z .args .room) (z .args .text .now) (entry z) (begun z) (r .whole-run .result) (whole r)
 
-loop-again : tie.Need-loop-again Inv-loop μ-loop
-loop-again c =
-    let k = c .before .before .before in
-    (k .count .kept .1 .1 .1 .0 ∙ k .before .before .before .before .before .before .before .before .before .loop .inv .0, counted k)
+-- and is passed
+abbrev then : tie.After-pass → Log
+then p = logOf (p .pass .result) (start (p .before) .args .list .now)
+
+ran : (p : tie.After-pass)
+    → let r = p .before in
+    let a = start r .args in
+    Left (a .room) (a .text .now) (entry (start r)) (drop (r .whole-run .result) (a .text .now)) (then p)
+ran p =
+    let r = p .before in
+    let z = start r in
+    run-next (z .args .room) (z .args .text .now) (entry z) (begun z) (r .whole-run .result) (whole r) (then p) (p .pass .ensures (z .args .list .now))
+
+-- what the rest gives is what is left to tally
+settles : (p : tie.After-pass) (m : Log) (k : ℕ)
+    → let r = p .before in
+    let a = start r .args in
+    let n = r .whole-run .result in
+    Settles bytes (a .room) (drop n (a .text .now)) (then p) m k → Settles bytes (a .room) (a .text .now) (entry (start r)) m (n + k)
+settles p =
+    let r = p .before in
+    let z = start r in
+    let n = r .whole-run .result in
+    let e : length (z .args .text .now) ≡ n + length (drop n (z .args .text .now)) = omega (arith, length-drop n (z .args .text .now), whole r .inside) in
+    left-settles (z .args .room) (z .args .text .now) (entry z) (ran p) n e
+
+returns-2 : tie.Need-returns-2
+returns-2 c =
+    let p = c .before in
+    let r = p .before in
+    let n = r .whole-run .result in
+    let a = start r .args in
+    let none : length (drop n (a .text .now)) ≡ 0 = omega (arith, length-drop n (a .text .now), c .if2 .taken) in
+    let e : n + 0 ≡ n = omega arith in
+    subst (Settles bytes (a .room) (a .text .now) (entry (start r)) (then p)) e
+    (settles p (then p) 0 (empty-settled (a .room) (drop n (a .text .now)) none (then p)))
+
+sub-walk-on : tie.Need-sub-walk-on
+sub-walk-on c = whole (c .before .before) .inside
+
+part-walk-on-start : tie.Need-part-walk-on-start
+part-walk-on-start c = whole (c .before .before) .inside
+
+part-walk-on-end : tie.Need-part-walk-on-end
+part-walk-on-end c = search needs
+
+walk-on-requires : tie.Need-walk-on-requires
+walk-on-requires c κs =
+    let p = c .before .before .before in
+    let r = p .before in
+    let z = start r in
+    subst (λ (rest : List ℕ). Fits (z .args .room) (length rest) (then p)) (sym (part-is (z .args .text .now) (r .whole-run .result)))
+    (left-fits (z .args .room) (z .args .text .now) (entry z) (ran p))
+
+-- all is tallied
+all : (w : tie.After-walk-on)
+    → let r = w .before .before .before .before .before in
+    let z = start r in
+    Settles bytes (z .args .room) (z .args .text .now) (entry z) (logOf (w .walk-on .result .tally) (w .walk-on .last .1 .1 .1 .0))
+    (r .whole-run .result + w .walk-on .result .size)
+all w =
+    let p = w .before .before .before .before in
+    let r = p .before in
+    let a = start r .args in
+    let m = logOf (w .walk-on .result .tally) (w .walk-on .last .1 .1 .1 .0) in
+    settles p m (w .walk-on .result .size)
+    (subst (λ (rest : List ℕ). Settles bytes (a .room) rest (then p) m (w .walk-on .result .size)) (part-is (a .text .now) (r .whole-run .result)) (w .walk-on .ensures))
+
+add-t9 : tie.Need-add-t9
+add-t9 c =
+    let w = c .before .before .before .before in
+    let z = start (w .before .before .before .before .before) in
+    omega (arith, all w .size-is, parts-size bytes (z .args .text .now), z .pre .sums)
+
+same-length : tie.Need-same-length
+same-length c = search needs
+
+returns-3 : tie.Need-returns-3
+returns-3 c = all (c .before .before .before .before)
 
 pub walk-spec : {M : Type 1} → statement M
 walk-spec =
     tie.close
     (tie.spec
-    Inv-loop
-    μ-loop
-    loop-holds
-    sub-paced-run
-    part-paced-run-start
-    part-paced-run-end
-    paced-run-requires
-    pass-requires
-    add-at
-    sub-segment
-    part-segment-start
-    part-segment-end
-    segment-requires
-    settled-size-requires
-    same-length
     returns
-    count-requires
-    add-at-2
-    pace-behind-requires
-    loop-less
-    loop-again)
+    whole-run-requires
+    pass-requires
+    returns-2
+    sub-walk-on
+    part-walk-on-start
+    part-walk-on-end
+    walk-on-requires
+    add-t9
+    same-length
+    returns-3)

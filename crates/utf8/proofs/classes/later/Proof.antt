@@ -1,7 +1,5 @@
 -- Each arm is a class, and the last all others.
 use mathlib.Core.Path.{sym}
-use Prim.Native.Nat.{_<_}
-use mathlib.Core.Logic.{_⊎_}
 use native.Mathlib.Omega.{arith}
 use Rattle.utf8.specs.Classes.{anyLater}
 use Rattle.utf8.proofs.ClassesWanted.{not-among, none-of}

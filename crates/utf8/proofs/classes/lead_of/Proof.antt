@@ -1,5 +1,4 @@
 -- Each arm is a row of classes, and the last is none.
-use mathlib.Core.Path.{refl}
 use Rattle.utf8.specs.Classes.{rowsOfClasses}
 use Rattle.utf8.proofs.ClassesWanted.{not-only}
 use Rattle.utf8.proofs.classes.lead_of.Statement.{statement}

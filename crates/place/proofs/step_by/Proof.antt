@@ -1,15 +1,17 @@
--- `step` meets its contract: the segment that the reader told is added in all four counts.
+-- `step_by` meets its contract: the segment that the reader told is added in all four counts.
 use native.Mathlib.Omega.{arith}
 use borrow.Author.Needs.{needs}
+use Rattle.utf8.specs.Classes.{byClasses}
+use Rattle.utf8.proofs.ClassesDivide.{classes-division}
 use Rattle.place.proofs.OneStep.{stepped-end, added}
-use Rattle.place.proofs.step.Statement.{statement}
-use Rattle.place.proofs.step.Tie as tie
+use Rattle.place.proofs.step_by.Statement.{statement}
+use Rattle.place.proofs.step_by.Tie as tie
 
 returns : tie.Need-returns
-returns c = let a = c .before .before .args in stepped-end (a .p) (a .rest .now) (c .if1 .taken)
+returns c = let a = c .before .before .args in stepped-end (byClasses (a .classes .now)) (a .p) (a .rest .now) (c .if1 .taken)
 
-segment-requires : tie.Need-segment-requires
-segment-requires c κs = search needs
+segment-by-requires : tie.Need-segment-by-requires
+segment-by-requires c κs = search needs
 
 size-requires : tie.Need-size-requires
 size-requires c κs = search needs
@@ -46,16 +48,16 @@ returns-2 c =
     let g = s .before in
     let e = g .before in
     let a = e .before .before .args in
-    let h = added (a .p) (a .rest .now) (omega (arith, e .if1 .left)) (g .segment .result) (g .segment .ensures) in
+    let h = added (byClasses (a .classes .now)) (classes-division (a .classes .now)) (a .p) (a .rest .now) (omega (arith, e .if1 .left)) (g .segment-by .result) (g .segment-by .ensures) in
     rw (b .wrapping-add-usize .ensures, v .wrapping-add-usize2 .ensures, u .units-of .ensures)
     (rw (k .wrapping-add-usize3 .ensures, c .wrapping-add-usize4 .ensures, l .lines-of .ensures) (h (s .size .result) (s .size .ensures)))
 
-pub step-spec : {M : Type 1} → statement M
-step-spec =
+pub step-by-spec : {M : Type 1} → statement M
+step-by-spec =
     tie.close
     (tie.spec
     returns
-    segment-requires
+    segment-by-requires
     size-requires
     wrapping-add-usize-requires
     units-of-requires
