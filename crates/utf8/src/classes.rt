@@ -16,7 +16,7 @@ pub enum Lead {
 }
 
 // The class that a table gives a byte.
-pub fn class_in(classes: &[u8; 256], b: u8) -> u8
+fn class_in(classes: &[u8; 256], b: u8) -> u8
     ensures { λ r. ⌜ r ≡ classIn (now (classes .entry)) b ⌝ }
 {
     classes[b as usize]

@@ -13,7 +13,6 @@ ghost use Rattle.utf8.specs.Scalar.{number, utf8, utf8By};
 mod classes;
 mod table;
 
-pub use classes::class_in;
 pub use classes::segment_by;
 pub use table::CLASSES;
 
