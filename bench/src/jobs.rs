@@ -176,7 +176,7 @@ pub const JOBS: [Job; 28] = [
     job("plain lookup by unit", "plain loop", cases::plain_loop),
     job(
         "plain lookup by unit",
-        "the reader by ranges",
+        "loop by ranges",
         cases::plain_ranges,
     ),
     by_call(job(

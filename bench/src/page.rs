@@ -31,8 +31,8 @@ without its SIMD feature and reads words. std's check reads words. \
 Ours is compiled for plain x86-64 (SSE2).
 - bytecount counts code points alone, while the builder counts three measures and writes checkpoints. The plain loop is Rust's \
 `utf8_chunks` and `chars`, counting units, code points and lines.
-- The reader by ranges is the one that the library had before its table of classes, written once more in Rust: it tests the range of each \
-byte, and counts the four measures as ours does.
+- The loop by ranges has the reader that the library had before its table of classes, which tests the range of each byte, written once more \
+in Rust: a loop for units alone, while ours serves the four measures by one walk.
 - Ours and std's check stop at the first damage, so a damaged text is cut behind it for them. simdutf8 (basic) reads on to the end, \
 and is compared on clean texts alone.
 - A ratio that is to be reached stands for texts of 64 bytes and more; that of the check against std from 24 bytes on.

@@ -63,7 +63,11 @@ fn first_by(text: &[u8], table: &Table) -> Told {
 /// The library's own table reads as the calls without one do.
 fn by_ranges(run: &mut Run, text: &[u8], table: &Table) {
     let said = [bridge_bytes_segment_by, bridge_bytes_point_by].map(|call| by(call, text, table));
-    assert_eq!(said, [forms::first(text), forms::point(text)], "{text:02X?}");
+    assert_eq!(
+        said,
+        [forms::first(text), forms::point(text)],
+        "{text:02X?}"
+    );
     assert_eq!(said[0], first_by(text, table), "{text:02X?}");
     run.cases += 2;
 }
@@ -77,7 +81,11 @@ pub fn all(run: &mut Run) {
         by_ranges(run, &text, &table);
         let false_one: Table = std::array::from_fn(|_| (run.random.next() % 16) as u8);
         let said = by(bridge_bytes_segment_by, &text, &false_one);
-        assert_eq!(said, first_by(&text, &false_one), "{text:02X?} by {false_one:?}");
+        assert_eq!(
+            said,
+            first_by(&text, &false_one),
+            "{text:02X?} by {false_one:?}"
+        );
         run.cases += 1;
     }
 }
