@@ -1,6 +1,6 @@
 -- A table with the rule reads what the well-formed byte sequences of table 3-7 say; and the table of the code has the rule.
 use mathlib.Core.Path.{_≡_, refl, sym, ap, _∙_}
-use mathlib.Core.Logic.{_⊎_, inl, inr, ⊎-elim}
+use mathlib.Core.Logic.{_⊎_, inl, inr, ⊎-elim, _↔_}
 use Prim.Native.Nat.{ℕ, zero, suc, _≤_, _<_}
 use mathlib.Core.Bool.{true, false, cond}
 use mathlib.Core.List.{List, [], _∷_, map}
@@ -15,7 +15,7 @@ use Rattle.terms.specs.Told.{firstSays}
 use Rattle.utf8.specs.Bytes.{row, next, rows, bytes}
 use Rattle.utf8.specs.Classes.{classes, amongRanges, inClass, unclassed, classIn, anyLater, rowsOfClasses, byClasses}
 use Rattle.utf8.specs.Scalar.{number, sequence, utf8, utf8By}
-use Rattle.utf8.proofs.ClassRule.{Ruled, by-test}
+use Rattle.utf8.proofs.ClassRule.{Ruled, class-rule, by-test}
 use Rattle.utf8.proofs.ClassesWanted.{not-among, none-of}
 use Rattle.utf8.proofs.RowsOfBytes.{at-row, at-none}
 
@@ -282,6 +282,10 @@ table = entriesFrom 256 0
 pub table-ruled : Ruled table
 unfolding classes table
 table-ruled = by-test table refl refl
+
+-- A BYTE HAS A CLASS EXACTLY IF IT LIES IN THE CLASS'S RANGES
+pub byte-classed : (b c : ℕ) → b < 256 → c < unclassed → (classIn table b ≡ c) ↔ (inClass c b ≡ true)
+byte-classed = class-rule table table-ruled
 
 pub by-table : byClasses table ≡ bytes
 by-table = reads-bytes table table-ruled
