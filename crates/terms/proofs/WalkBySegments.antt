@@ -24,24 +24,6 @@ use Rattle.terms.specs.declared.First.the-variants.{Nothing, Whole, Dama
 pub part-is : (text : List ℕ) (at : ℕ) → take (length text - at) (drop at text) ≡ drop at text
 part-is text at = take-all (length text - at) (drop at text) (omega (arith, length-drop at text))
 
--- the same by its name, where a walk keeps what is behind so many elements of a text
-abbrev pub behind : List ℕ → ℕ → List ℕ
-behind text n = take (length text - n) (drop n text)
-
-pub behind-long : (text : List ℕ) (n : ℕ) → length (behind text n) ≡ length text - n
-behind-long text n = ap length (part-is text n) ∙ length-drop n text
-
-pub behind-there : (text part : List ℕ) (at : ℕ) → part ≡ drop at text → (n : ℕ) → behind part n ≡ drop (at + n) text
-behind-there text part at e n = part-is part n ∙ ap (drop n) e ∙ drop-drop n at text
-
--- behind a segment and the run that follows it
-module _ (text : List ℕ) (seg run : ℕ) where
-  pub behind-both : behind (behind text seg) run ≡ drop run (drop seg text)
-  behind-both = part-is (behind text seg) run ∙ ap (drop run) (part-is text seg)
-
-  pub behind-less : seg ≤ length text → 0 < seg → length (behind (behind text seg) run) < length text
-  behind-less h k = rw behind-both (omega (arith, length-drop run (drop seg text), length-drop seg text))
-
 -- and a part of it, as `&text[at..at + n]` does
 pub part-to : (text : List ℕ) (at n : ℕ) → take (at + n - at) (drop at text) ≡ take n (drop at text)
 part-to text at n = let k : at + n - at ≡ n = omega arith in rw k

@@ -46,11 +46,26 @@ met {F} f text at h n c told = go (drop at text) refl (rw part-is at told)
           cuts = rw (← drop-drop n at text, e, m) (cut-cons (F .look) x xs);
         }
 
--- ---- an output whose part from place n on was lent, and came back with some places written at its start
+-- ---- the part from place n on, as `&text[n..]` and `&mut out[n..]` lend it
 
--- the part that `&mut out[n..]` lends, and the output once it is back
 abbrev pub lent : List ℕ → ℕ → List ℕ
 lent out n = take (length out - n) (drop n out)
+
+pub lent-long : (text : List ℕ) (n : ℕ) → length (lent text n) ≡ length text - n
+lent-long text n = ap length (part-is text n) ∙ length-drop n text
+
+pub lent-there : (text part : List ℕ) (at : ℕ) → part ≡ drop at text → (n : ℕ) → lent part n ≡ drop (at + n) text
+lent-there text part at e n = part-is part n ∙ ap (drop n) e ∙ drop-drop n at text
+
+-- behind a segment and the run that follows it
+module _ (text : List ℕ) (seg run : ℕ) where
+  pub lent-both : lent (lent text seg) run ≡ drop run (drop seg text)
+  lent-both = part-is (lent text seg) run ∙ ap (drop run) (part-is text seg)
+
+  pub lent-less : seg ≤ length text → 0 < seg → length (lent (lent text seg) run) < length text
+  lent-less h k = rw lent-both (omega (arith, length-drop run (drop seg text), length-drop seg text))
+
+-- ---- an output whose part was lent, and came back with some places written at its start
 
 abbrev pub back : List ℕ → ℕ → List ℕ → List ℕ
 back out n ys = take n out ++ (ys ++ drop (length out - n) (drop n out))

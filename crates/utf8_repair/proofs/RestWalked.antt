@@ -7,8 +7,8 @@ use native.Mathlib.Omega.{arith}
 use Rattle.terms.specs.Form.{converted, pointSays}
 use Rattle.terms.specs.Told.{toldFirst, sizeOf, firstSays}
 use Rattle.terms.specs.declared.First.{First}
-use Rattle.terms.proofs.WalkBySegments.{part-is, behind-there}
-use Rattle.terms.proofs.WalkWrites.{Met, met, left, left-end, Counted, counted-start, counted-next, counted-end, Wrote, wrote-start, wrote-end, lent, back, filled-on}
+use Rattle.terms.proofs.WalkBySegments.{part-is}
+use Rattle.terms.proofs.WalkWrites.{Met, met, left, left-end, Counted, counted-start, counted-next, counted-end, Wrote, wrote-start, wrote-end, lent, back, filled-on, lent-there}
 use Rattle.utf8.specs.Bytes.{bytes}
 use Rattle.utf8.specs.Scalar.{utf8}
 use Rattle.utf8.proofs.FaithfulForm.{utf8-faithful}
@@ -60,14 +60,14 @@ module _ (text rest : List ℕ) (total : ℕ) (c : Counts text rest total) where
     mended = rw (stood .places) at (counted-next utf8 utf8 text (c .at) total (sizeOf r) (stood .point) (c .counted) here)
 
     behind : lent rest (sizeOf r) ≡ drop (c .at + sizeOf r) text
-    behind = behind-there text rest (c .at) (c .there) (sizeOf r)
+    behind = lent-there text rest (c .at) (c .there) (sizeOf r)
 
     pub counts-turn : (pace : Pace) (k : ℕ) → k ≡ pacedRun (lent rest (sizeOf r)) pace → Counts text (lent (lent rest (sizeOf r)) k) (total + (placesOf r + k))
     counts-turn pace k e =
         let s : total + placesOf r + k ≡ total + (placesOf r + k) = omega arith in
         record {
           at = c .at + sizeOf r + k;
-          there = behind-there text (lent rest (sizeOf r)) (c .at + sizeOf r) behind k;
+          there = lent-there text (lent rest (sizeOf r)) (c .at + sizeOf r) behind k;
           counted = rw s at (counted-run text (lent rest (sizeOf r)) (c .at + sizeOf r) pace k (here .inside) behind e (total + placesOf r) mended);
         }
 
@@ -98,14 +98,14 @@ module _ (text out₀ rest out : List ℕ) (done : ℕ) (c : Writing text out₀
           wrote-pass utf8 utf8 text out₀ out (c .at) done (c .wrote) room ys n put (rw (part-is text (c .at), ← c .there) q)
 
       next : lent rest n ≡ drop (c .at + n) text
-      next = behind-there text rest (c .at) (c .there) n
+      next = lent-there text rest (c .at) (c .there) n
 
       pub writing-turn : (pace : Pace) (k : ℕ) → k ≡ pacedRun (lent rest n) pace → (zs : List ℕ)
           → zs ≡ take (length (lent (back out done ys) (done + put))) (take k (lent rest n)) ++ drop (length (take k (lent rest n))) (lent (back out done ys) (done + put))
           → Writing text out₀ (lent (lent rest n) k) (back (back out done ys) (done + put) zs) (done + put + k)
       writing-turn pace k e zs z = record {
         at = c .at + n + k;
-        there = behind-there text (lent rest n) (c .at + n) next k;
+        there = lent-there text (lent rest n) (c .at + n) next k;
         wrote = wrote-bytes text (lent rest n) (c .at + n) pace k (mended-wrote .inside) next e out₀ (back out done ys) (done + put) mended-wrote room zs z;
       }
 

@@ -4,14 +4,13 @@ use mathlib.Core.Path.{refl, sym}
 use lib.ListN.{length}
 use lib.Seq.{length-take-le}
 use native.Mathlib.Omega.{arith}
-use Rattle.terms.proofs.WalkWrites.{Met, Counted, counted-start, counted-next, counted-end}
+use Rattle.terms.proofs.WalkWrites.{Met, Counted, counted-start, counted-next, counted-end, lent, lent-long, lent-there}
 use Rattle.utf8.specs.Scalar.{utf8}
 use Rattle.utf8.specs.Classes.{classes}
 use Rattle.utf8.proofs.ClassesRead.{table, by-table}
 use Rattle.utf8_check.proofs.RunDivides.{Run}
 use Rattle.utf8_check.proofs.RunsPassed.{run-paced}
 use Rattle.utf16.specs.Scalar.{utf16}
-use Rattle.terms.proofs.WalkBySegments.{behind, behind-long, behind-there}
 use Rattle.convert_from_utf8.proofs.RunsSpelled.{Counting, counted-few, run-undamaged, part-long, part-end, met-there, passed-there, counted-on}
 use borrow.Author.Needs.{needs}
 use Rattle.convert_from_utf8.proofs.need_on.Statement.{statement}
@@ -82,23 +81,23 @@ paced-run-requires c κs = search needs
 -- the run behind it
 ran : (r : tie.After-paced-run Inv-loop μ-loop)
     → let p = r .before .before .before in
-    Run (behind (p .before .before .before .loop .rest .now) (p .point-by .result .size)) (r .paced-run .result)
+    Run (lent (p .before .before .before .loop .rest .now) (p .point-by .result .size)) (r .paced-run .result)
 ran r =
     let p = r .before .before .before in
     let l = p .before .before .before in
-    run-paced (behind (l .loop .rest .now) (p .point-by .result .size)) (l .loop .pace) (r .paced-run .result) (r .paced-run .ensures)
+    run-paced (lent (l .loop .rest .now) (p .point-by .result .size)) (l .loop .pace) (r .paced-run .result) (r .paced-run .ensures)
 
 slice-aggregate-need : tie.Need-slice-aggregate-need Inv-loop μ-loop
 slice-aggregate-need c =
     let r = c .before in
     let p = r .before .before .before in
-    sym (length-take-le (r .paced-run .result) (behind (p .before .before .before .loop .rest .now) (p .point-by .result .size)) (ran r .inside))
+    sym (length-take-le (r .paced-run .result) (lent (p .before .before .before .loop .rest .now) (p .point-by .result .size)) (ran r .inside))
 
 need-requires : tie.Need-need-requires Inv-loop μ-loop
 need-requires c κs =
     let r = c .before in
     let p = r .before .before .before in
-    run-undamaged (behind (p .before .before .before .loop .rest .now) (p .point-by .result .size)) (r .paced-run .result) (ran r)
+    run-undamaged (lent (p .before .before .before .loop .rest .now) (p .point-by .result .size)) (r .paced-run .result) (ran r)
 
 -- and what is counted behind that
 after : (q : tie.After-need Inv-loop μ-loop)
@@ -116,7 +115,7 @@ after q =
     let text = l .before .before .args .text .now in
     let size = p .point-by .result .size in
     let v = l .loop .inv in
-    let b = passed-there text (behind (l .loop .rest .now) size) (v .at + size) (behind-there text (l .loop .rest .now) (v .at) (v .rest-is) size) (here p .inside) (r .paced-run .result) (ran r) in
+    let b = passed-there text (lent (l .loop .rest .now) size) (v .at + size) (lent-there text (l .loop .rest .now) (v .at) (v .rest-is) size) (here p .inside) (r .paced-run .result) (ran r) in
     counted-on text (v .at + size) (r .paced-run .result) _ b (l .loop .total + s .places .result) (q .need .result) (next s) (q .need .ensures)
 
 add-total-2 : tie.Need-add-total-2 Inv-loop μ-loop
@@ -142,7 +141,7 @@ loop-less c =
     let p = r .before .before .before in
     let rest = p .before .before .before .loop .rest .now in
     let size = p .point-by .result .size in
-    omega (arith, here p .some, ends p, behind-long rest size, behind-long (behind rest size) (r .paced-run .result))
+    omega (arith, here p .some, ends p, lent-long rest size, lent-long (lent rest size) (r .paced-run .result))
 
 loop-again : tie.Need-loop-again Inv-loop μ-loop
 loop-again c =
@@ -156,7 +155,7 @@ loop-again c =
     record {
       reads = v .reads;
       at = v .at + size + r .paced-run .result;
-      rest-is = behind-there text (behind (l .loop .rest .now) size) (v .at + size) (behind-there text (l .loop .rest .now) (v .at) (v .rest-is) size) (r .paced-run .result);
+      rest-is = lent-there text (lent (l .loop .rest .now) size) (v .at + size) (lent-there text (l .loop .rest .now) (v .at) (v .rest-is) size) (r .paced-run .result);
       counted = after q;
     }
 

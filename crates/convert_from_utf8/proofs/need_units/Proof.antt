@@ -4,8 +4,8 @@ use Prim.Native.Nat.{_+_}
 use lib.ListN.{length}
 use lib.Seq.{length-take-le}
 use native.Mathlib.Omega.{arith}
-use Rattle.terms.proofs.WalkBySegments.{part-is, behind}
-use Rattle.terms.proofs.WalkWrites.{Counted, counted-end}
+use Rattle.terms.proofs.WalkBySegments.{part-is}
+use Rattle.terms.proofs.WalkWrites.{Counted, counted-end, lent}
 use Rattle.utf8.specs.Scalar.{utf8}
 use Rattle.utf8_check.proofs.RunDivides.{Run}
 use Rattle.utf8_check.proofs.StandingIsWhole.{run-at}
@@ -63,13 +63,13 @@ after : (n : tie.After-need-on)
     → let q = n .before .before .before in
     let r = q .before .before in
     let text = r .before .before .args .text .now in
-    Counted utf8 utf16 text (r .whole-run .result + length (behind text (r .whole-run .result))) (q .need .result + n .need-on .result)
+    Counted utf8 utf16 text (r .whole-run .result + length (lent text (r .whole-run .result))) (q .need .result + n .need-on .result)
 after n =
     let q = n .before .before .before in
     let r = q .before .before in
     let text = r .before .before .args .text .now in
     let run = r .whole-run .result in
-    counted-on text run _ _ (passed-rest text (behind text run) run (part-is text run) (ran r .inside)) (q .need .result) (n .need-on .result) (next q) (n .need-on .ensures)
+    counted-on text run _ _ (passed-rest text (lent text run) run (part-is text run) (ran r .inside)) (q .need .result) (n .need-on .result) (next q) (n .need-on .ensures)
 
 add-result : tie.Need-add-result
 add-result c =
@@ -81,7 +81,7 @@ returns-2 c =
     let r = c .before .before .before .before .before in
     let text = r .before .before .args .text .now in
     let run = r .whole-run .result in
-    counted-end utf8 utf16 text _ _ (after c) (part-end text (behind text run) run (part-is text run))
+    counted-end utf8 utf16 text _ _ (after c) (part-end text (lent text run) run (part-is text run))
 
 pub need-units-spec : {M : Type 1} → statement M
 need-units-spec =

@@ -4,7 +4,7 @@ use Prim.Native.Nat.{_+_, _≤_}
 use lib.ListN.{length, take}
 use lib.Seq.{length-take-le}
 use native.Mathlib.Omega.{arith}
-use Rattle.terms.proofs.WalkWrites.{Met, Passed, left, back, Wrote, wrote-start, wrote-end}
+use Rattle.terms.proofs.WalkWrites.{Met, Passed, left, back, Wrote, wrote-start, wrote-end, lent, lent-long, lent-there}
 use Rattle.utf8.specs.Classes.{classes}
 use Rattle.utf8.specs.Scalar.{utf8}
 use Rattle.utf8.proofs.ClassesRead.{table, by-table}
@@ -13,7 +13,6 @@ use Rattle.utf8_check.proofs.RunsPassed.{run-paced}
 use Rattle.utf16.specs.Scalar.{utf16}
 use Rattle.convert_point.proofs.PointWritten.{wrote-put}
 use Rattle.convert_from_utf8.specs.Inside.Spell.{spelled}
-use Rattle.terms.proofs.WalkBySegments.{behind, behind-long, behind-there}
 use Rattle.convert_from_utf8.proofs.RunsSpelled.{Writing, part-long, part-end, met-there, passed-spelled, room-on, wrote-on}
 use borrow.Author.Needs.{needs}
 use Rattle.convert_from_utf8.proofs.write_on.Statement.{statement}
@@ -98,17 +97,17 @@ paced-run-requires c κs = search needs
 -- the run behind it
 ran : (r : tie.After-paced-run Inv-loop μ-loop)
     → let p = r .before .before .before .before .before .before in
-    Run (behind (p .before .before .before .loop .rest .now) (p .point-by .result .size)) (r .paced-run .result)
+    Run (lent (p .before .before .before .loop .rest .now) (p .point-by .result .size)) (r .paced-run .result)
 ran r =
     let p = r .before .before .before .before .before .before in
     let l = p .before .before .before in
-    run-paced (behind (l .loop .rest .now) (p .point-by .result .size)) (l .loop .pace) (r .paced-run .result) (r .paced-run .ensures)
+    run-paced (lent (l .loop .rest .now) (p .point-by .result .size)) (l .loop .pace) (r .paced-run .result) (r .paced-run .ensures)
 
 slice-aggregate-spell-run : tie.Need-slice-aggregate-spell-run Inv-loop μ-loop
 slice-aggregate-spell-run c =
     let r = c .before in
     let p = r .before .before .before .before .before .before in
-    sym (length-take-le (r .paced-run .result) (behind (p .before .before .before .loop .rest .now) (p .point-by .result .size)) (ran r .inside))
+    sym (length-take-le (r .paced-run .result) (lent (p .before .before .before .loop .rest .now) (p .point-by .result .size)) (ran r .inside))
 
 mul-spell-run : tie.Need-mul-spell-run Inv-loop μ-loop
 mul-spell-run c =
@@ -130,14 +129,14 @@ passes : (r : tie.After-paced-run Inv-loop μ-loop)
     let l = p .before .before .before in
     let text = l .before .before .before .args .text .now in
     let size = p .point-by .result .size in
-    Passed (left utf8 utf16 text) (length text) (l .loop .inv .at + size) (r .paced-run .result) (spelled (take (r .paced-run .result) (behind (l .loop .rest .now) size)))
+    Passed (left utf8 utf16 text) (length text) (l .loop .inv .at + size) (r .paced-run .result) (spelled (take (r .paced-run .result) (lent (l .loop .rest .now) size)))
 passes r =
     let p = r .before .before .before .before .before .before in
     let l = p .before .before .before in
     let v = l .loop .inv in
     let text = l .before .before .before .args .text .now in
     let size = p .point-by .result .size in
-    passed-spelled text (behind (l .loop .rest .now) size) (v .at + size) (behind-there text (l .loop .rest .now) (v .at) (v .rest-is) size) (here p .inside) (r .paced-run .result) (ran r)
+    passed-spelled text (lent (l .loop .rest .now) size) (v .at + size) (lent-there text (l .loop .rest .now) (v .at) (v .rest-is) size) (here p .inside) (r .paced-run .result) (ran r)
 
 spell-run-requires : tie.Need-spell-run-requires Inv-loop μ-loop
 spell-run-requires c κs =
@@ -189,7 +188,7 @@ loop-less c =
     let p = r .before .before .before .before .before .before in
     let rest = p .before .before .before .loop .rest .now in
     let size = p .point-by .result .size in
-    omega (arith, here p .some, ends p, behind-long rest size, behind-long (behind rest size) (r .paced-run .result))
+    omega (arith, here p .some, ends p, lent-long rest size, lent-long (lent rest size) (r .paced-run .result))
 
 loop-again : tie.Need-loop-again Inv-loop μ-loop
 loop-again c =
@@ -203,7 +202,7 @@ loop-again c =
     record {
       reads = v .reads;
       at = v .at + size + r .paced-run .result;
-      rest-is = behind-there text (behind (l .loop .rest .now) size) (v .at + size) (behind-there text (l .loop .rest .now) (v .at) (v .rest-is) size) (r .paced-run .result);
+      rest-is = lent-there text (lent (l .loop .rest .now) size) (v .at + size) (lent-there text (l .loop .rest .now) (v .at) (v .rest-is) size) (r .paced-run .result);
       wrote = after s;
     }
 

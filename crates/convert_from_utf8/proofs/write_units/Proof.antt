@@ -5,8 +5,8 @@ use lib.ListN.{length}
 use lib.Seq.{length-take-le}
 use native.Mathlib.Omega.{arith}
 use Rattle.terms.specs.Form.{converted}
-use Rattle.terms.proofs.WalkBySegments.{part-is, behind}
-use Rattle.terms.proofs.WalkWrites.{Passed, left, back, Wrote, wrote-end}
+use Rattle.terms.proofs.WalkBySegments.{part-is}
+use Rattle.terms.proofs.WalkWrites.{Passed, left, back, Wrote, wrote-end, lent}
 use Rattle.utf8.specs.Scalar.{utf8}
 use Rattle.utf8_check.proofs.RunDivides.{Run}
 use Rattle.utf8_check.proofs.StandingIsWhole.{run-at}
@@ -82,12 +82,12 @@ part-write-on-end-2 c = let w = next (c .before .before .before .before) in let 
 -- all that is left
 passes : (r : tie.After-whole-run)
     → let text = r .before .before .before .args .text .now in
-    let rest = behind text (r .whole-run .result) in
+    let rest = lent text (r .whole-run .result) in
     Passed (left utf8 utf16 text) (length text) (r .whole-run .result) (length rest) (converted utf8 utf16 rest)
 passes r =
     let text = r .before .before .before .args .text .now in
     let run = r .whole-run .result in
-    passed-rest text (behind text run) run (part-is text run) (ran r .inside)
+    passed-rest text (lent text run) run (part-is text run) (ran r .inside)
 
 write-on-requires : tie.Need-write-on-requires
 write-on-requires c κs =
@@ -102,7 +102,7 @@ after : (o : tie.After-write-on)
     let r = s .before .before .before in
     let a = r .before .before .before .args in
     Wrote utf8 utf16 (a .text .now) (a .out .now) (back (s .put .last .1 .0) (s .put .result) (o .write-on .last .1 .0))
-    (r .whole-run .result + length (behind (a .text .now) (r .whole-run .result))) (s .put .result + o .write-on .result)
+    (r .whole-run .result + length (lent (a .text .now) (r .whole-run .result))) (s .put .result + o .write-on .result)
 after o =
     let s = o .before .before .before .before .before .before in
     let r = s .before .before .before in
@@ -126,7 +126,7 @@ returns-2 c =
     let a = r .before .before .before .args in
     let text = a .text .now in
     let run = r .whole-run .result in
-    let e = wrote-end utf8 utf16 text (a .out .now) _ _ _ (after o) (part-end text (behind text run) run (part-is text run)) in
+    let e = wrote-end utf8 utf16 text (a .out .now) _ _ _ (after o) (part-end text (lent text run) run (part-is text run)) in
     record { count = e .0; output = e .1 }
 
 pub write-units-spec : {M : Type 1} → statement M

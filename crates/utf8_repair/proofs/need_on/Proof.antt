@@ -4,14 +4,13 @@ use Prim.Native.Nat.{_+_, _≤_}
 use lib.ListN.{length}
 use native.Mathlib.Omega.{arith}
 use Rattle.terms.specs.Told.{toldFirst, firstSays}
-use Rattle.terms.proofs.WalkWrites.{lent}
+use Rattle.terms.proofs.WalkWrites.{lent, lent-less}
 use Rattle.utf8.specs.Bytes.{bytes}
 use Rattle.utf8.specs.Classes.{classes, byClasses}
 use Rattle.utf8.proofs.ClassesRead.{table, by-table}
 use Rattle.convert_point.specs.declared.Target.the-variants.{Bytes}
 use Rattle.convert_point.proofs.Enough.{text-few}
 use Rattle.utf8_check.proofs.RunsPassed.{run-paced}
-use Rattle.terms.proofs.WalkBySegments.{behind-less}
 use Rattle.utf8_repair.proofs.RestWalked.{Counts, counts-start, counts-few, counts-end, size-some, size-inside, counts-turn}
 use borrow.Author.Needs.{needs}
 use Rattle.utf8_repair.proofs.need_on.Statement.{statement}
@@ -122,7 +121,7 @@ loop-less c =
     let g = s .before in
     let i = g .before .before in
     let l = i .before in
-    behind-less (l .loop .rest .now) (s .size .result) (r .paced-run .result) (inside s)
+    lent-less (l .loop .rest .now) (s .size .result) (r .paced-run .result) (inside s)
     (rw (s .size .ensures) (size-some (l .before .before .args .text .now) (l .loop .rest .now) (l .loop .total) (l .loop .inv .1) (i .loop-test .taken) (g .segment-by .result) (told g)))
 
 loop-again : tie.Need-loop-again Inv-loop μ-loop

@@ -4,13 +4,12 @@ use Prim.Native.Nat.{_+_, _≤_}
 use lib.ListN.{length}
 use lib.Seq.{length-take-le}
 use native.Mathlib.Omega.{arith}
-use Rattle.terms.proofs.WalkWrites.{lent, back, Wrote}
+use Rattle.terms.proofs.WalkWrites.{lent, back, Wrote, lent-less}
 use Rattle.utf8.specs.Bytes.{bytes}
 use Rattle.utf8.specs.Classes.{classes, byClasses}
 use Rattle.utf8.specs.Scalar.{utf8}
 use Rattle.utf8.proofs.ClassesRead.{table, by-table}
 use Rattle.utf8_check.proofs.RunsPassed.{run-paced}
-use Rattle.terms.proofs.WalkBySegments.{behind-less}
 use Rattle.utf8_repair.proofs.RestWalked.{Writing, writing-start, writing-end, writing-room, mended-wrote, writing-turn}
 use borrow.Author.Needs.{needs}
 use Rattle.utf8_repair.proofs.write_on.Statement.{statement}
@@ -137,7 +136,7 @@ loop-less c =
     let r = c .before .before .before .before .before .before .before in
     let u = r .before .before .before .before .before in
     let p = u .mend .ensures .passes in
-    behind-less (u .before .before .before .before .loop .rest .now) (u .mend .result .passed) (r .paced-run .result) (p .inside) (p .some)
+    lent-less (u .before .before .before .before .loop .rest .now) (u .mend .result .passed) (r .paced-run .result) (p .inside) (p .some)
 
 loop-again : tie.Need-loop-again Inv-loop μ-loop
 loop-again c =

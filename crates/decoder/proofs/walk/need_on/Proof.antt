@@ -6,7 +6,8 @@ use lib.ListN.{length, drop}
 use native.Mathlib.Omega.{arith}
 use borrow.Author.Needs.{needs}
 use Rattle.terms.specs.Told.{firstSays}
-use Rattle.terms.proofs.WalkBySegments.{part-is, behind, behind-both, behind-less}
+use Rattle.terms.proofs.WalkBySegments.{part-is}
+use Rattle.terms.proofs.WalkWrites.{lent, lent-both, lent-less}
 use Rattle.utf8.specs.Classes.{classes}
 use Rattle.utf8.proofs.ClassesRead.{table, by-table}
 use Rattle.utf8_check.proofs.RunDivides.{Run}
@@ -105,7 +106,7 @@ pace-behind-requires c κs = search needs
 -- it lies there, as the code cuts it off
 ends : (r : tie.After-paced-run Inv-loop μ-loop)
     → let t = r .before .before .before in
-    r .paced-run .result ≤ length (behind (t .before .before .before .loop .rest .now) (t .settled-size .result))
+    r .paced-run .result ≤ length (lent (t .before .before .before .loop .rest .now) (t .settled-size .result))
 ends r =
     let t = r .before .before .before in
     subst (λ (xs : List ℕ). r .paced-run .result ≤ length xs) (sym (part-is (t .before .before .before .loop .rest .now) (t .settled-size .result))) (next r .inside)
@@ -123,7 +124,7 @@ loop-less : tie.Need-loop-less Inv-loop μ-loop
 loop-less c =
     let r = c .before .before .before in
     let t = r .before .before .before in
-    behind-less (t .before .before .before .loop .rest .now) (t .settled-size .result) (r .paced-run .result) (inside t) (omega (arith, r .before .before .if1 .left))
+    lent-less (t .before .before .before .loop .rest .now) (t .settled-size .result) (r .paced-run .result) (inside t) (omega (arith, r .before .before .if1 .left))
 
 loop-again : tie.Need-loop-again Inv-loop μ-loop
 loop-again c =
@@ -132,7 +133,7 @@ loop-again c =
     let t = r .before .before .before in
     let l = t .before .before .before in
     subst (λ (rest : List ℕ). Counted (l .before .before .args .text .now) rest (l .loop .n + (p .places .result + r .paced-run .result)))
-    (sym (behind-both (l .loop .rest .now) (t .settled-size .result) (r .paced-run .result))) (record { same = omega (arith, counted p .same) })
+    (sym (lent-both (l .loop .rest .now) (t .settled-size .result) (r .paced-run .result))) (record { same = omega (arith, counted p .same) })
 
 pub need-on-spec : {M : Type 1} → statement M
 need-on-spec =

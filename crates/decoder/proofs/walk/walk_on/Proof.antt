@@ -7,7 +7,8 @@ use native.Mathlib.Omega.{arith}
 use borrow.Author.Needs.{needs}
 use Rattle.terms.specs.Limits.{limit}
 use Rattle.terms.specs.Told.{toldFirst, firstSays}
-use Rattle.terms.proofs.WalkBySegments.{part-is, behind, behind-both, behind-less}
+use Rattle.terms.proofs.WalkBySegments.{part-is}
+use Rattle.terms.proofs.WalkWrites.{lent, lent-both, lent-less}
 use Rattle.utf8.specs.Bytes.{bytes}
 use Rattle.utf8.specs.Classes.{classes}
 use Rattle.utf8.proofs.ClassesRead.{table, by-table}
@@ -129,7 +130,7 @@ next r =
 -- as the code cuts it off
 cut-off : (r : tie.After-paced-run Inv-loop μ-loop)
     → let t = size-of r in
-    left t ≡ behind (t .before .before .before .loop .rest .now) (t .settled-size .result)
+    left t ≡ lent (t .before .before .before .loop .rest .now) (t .settled-size .result)
 cut-off r = let t = size-of r in sym (part-is (t .before .before .before .loop .rest .now) (t .settled-size .result))
 
 slice-aggregate-pass : tie.Need-slice-aggregate-pass Inv-loop μ-loop
@@ -173,7 +174,7 @@ pace-behind-requires c κs = search needs
 
 ends : (r : tie.After-paced-run Inv-loop μ-loop)
     → let t = size-of r in
-    r .paced-run .result ≤ length (behind (t .before .before .before .loop .rest .now) (t .settled-size .result))
+    r .paced-run .result ≤ length (lent (t .before .before .before .loop .rest .now) (t .settled-size .result))
 ends r = subst (λ (xs : List ℕ). r .paced-run .result ≤ length xs) (cut-off r) (next r .inside)
 
 sub-rest : tie.Need-sub-rest Inv-loop μ-loop
@@ -189,7 +190,7 @@ loop-less : tie.Need-loop-less Inv-loop μ-loop
 loop-less c =
     let r = run-of (c .before .before .before .before) in
     let t = size-of r in
-    behind-less (t .before .before .before .loop .rest .now) (t .settled-size .result) (r .paced-run .result) (inside t)
+    lent-less (t .before .before .before .loop .rest .now) (t .settled-size .result) (r .paced-run .result) (inside t)
     (omega (arith, segment-of r .before .before .before .if1 .left))
 
 loop-again : tie.Need-loop-again Inv-loop μ-loop
@@ -203,7 +204,7 @@ loop-again c =
       p .pass .kept .1 .1 .0 ∙ a .act .kept .1 .1 .1 .1 .0 ∙ l .loop .inv .0,
       a .act .kept .1 .1 .1 .1 .1 .0 ∙ l .loop .inv .1,
       subst (λ (rest : List ℕ). Walked (start l .args .room) (start l .args .text .now) (entry l) rest v)
-          (sym (behind-both (l .loop .rest .now) (t .settled-size .result) (r .paced-run .result))) (ran p),
+          (sym (lent-both (l .loop .rest .now) (t .settled-size .result) (r .paced-run .result))) (ran p),
     )
 
 pub walk-on-spec : {M : Type 1} → statement M

@@ -7,7 +7,8 @@ use native.Mathlib.Omega.{arith}
 use borrow.Author.Needs.{needs}
 use Rattle.theory.specs.Tally.{Log}
 use Rattle.terms.specs.Told.{toldFirst, firstSays}
-use Rattle.terms.proofs.WalkBySegments.{part-is, behind, behind-both, behind-less}
+use Rattle.terms.proofs.WalkBySegments.{part-is}
+use Rattle.terms.proofs.WalkWrites.{lent, lent-both, lent-less}
 use Rattle.utf8.specs.Bytes.{bytes}
 use Rattle.utf8.specs.Classes.{classes}
 use Rattle.utf8.proofs.ClassesRead.{table, by-table}
@@ -140,7 +141,7 @@ pace-behind-requires c κs = search needs
 -- the run, as the code cuts it off
 ends : (r : tie.After-paced-run Inv-loop μ-loop)
     → let t = size-of r in
-    r .paced-run .result ≤ length (behind (t .before .before .before .loop .rest .now) (t .settled-size .result))
+    r .paced-run .result ≤ length (lent (t .before .before .before .loop .rest .now) (t .settled-size .result))
 ends r =
     let t = size-of r in
     subst (λ (xs : List ℕ). r .paced-run .result ≤ length xs) (sym (part-is (t .before .before .before .loop .rest .now) (t .settled-size .result))) (next r .inside)
@@ -158,7 +159,7 @@ loop-less : tie.Need-loop-less Inv-loop μ-loop
 loop-less c =
     let r = c .before .before .before in
     let t = size-of r in
-    behind-less (t .before .before .before .loop .rest .now) (t .settled-size .result) (r .paced-run .result) (inside t)
+    lent-less (t .before .before .before .loop .rest .now) (t .settled-size .result) (r .paced-run .result) (inside t)
     (omega (arith, segment-of r .before .before .if1 .left))
 
 loop-again : tie.Need-loop-again Inv-loop μ-loop
@@ -170,7 +171,7 @@ loop-again c =
     let l = t .before .before .before in (
       k .count .kept .1 .1 .1 .0 ∙ l .loop .inv .0,
       subst (λ (rest : List ℕ). Left (start l .args .room) (start l .args .text .now) (entry l) rest (logOf (p .pass .result) (k .count .last .1 .1 .1 .0)))
-          (sym (behind-both (l .loop .rest .now) (t .settled-size .result) (r .paced-run .result))) (ran p),
+          (sym (lent-both (l .loop .rest .now) (t .settled-size .result) (r .paced-run .result))) (ran p),
     )
 
 pub walk-on-spec : {M : Type 1} → statement M
