@@ -26,7 +26,7 @@ AllWhole ss = All (λ s. s .tag ≡ whole) ss
 
 whole-is : (k : Kind) → isDamage k ≡ false → k ≡ whole
 whole-is whole e = refl
-whole-is damage e = absurd (true≢false e)
+whole-is (damage c) e = absurd (true≢false e)
 
 pub none-whole : (at : ℕ) (ss : List (Segment Kind)) → entries isDamage at ss ≡ [] → AllWhole ss
 none-whole at [] e = tt

@@ -59,7 +59,7 @@ pub record Kept (F : Form) (xs : List ℕ) : Type 0 where
   pub scalar : isScalar (F .value xs) ≡ true
   pub again : F .write (F .value xs) ≡ xs
 
-module _ (F : Form) (rows : List Row) where
+module _ (F : Form) (rows : List Row) (cause : ℕ → ℕ) where
   -- a number is encoded as a sequence, which stands for the number
   pub record Encoded (c : ℕ) : Type 0 where
     pub back : F .value (F .write c) ≡ c
@@ -69,16 +69,16 @@ module _ (F : Form) (rows : List Row) where
   pub by-row : (c k : ℕ) (xs : List ℕ) → F .write c ≡ xs → F .value xs ≡ c → InRow rows k xs → Encoded c
   by-row c k xs e v i = record { back = rw e v; sequence = rw e (of-row rows k xs i) }
 
-  pub table-faithful : read rows ≡ F .look → Sound zero rows → ((xs : List ℕ) → Sequence rows xs → Kept F xs)
+  pub table-faithful : read rows cause ≡ F .look → Sound zero rows → ((xs : List ℕ) → Sequence rows xs → Kept F xs)
       → ((c : ℕ) → isScalar c ≡ true → Encoded c) → Faithful F
   table-faithful e s kept encoded = subst (λ (look : Reader Kind). Faithful (record { look = look; value = F .value; write = F .write })) e (record {
-    division = table-division rows;
-    scalar = λ x xs t. kept (body (first (read rows) x xs)) (whole-sequence rows s x xs t) .scalar;
-    again = λ x xs t. kept (body (first (read rows) x xs)) (whole-sequence rows s x xs t) .again;
+    division = table-division rows cause;
+    scalar = λ x xs t. kept (body (first (read rows cause) x xs)) (whole-sequence rows cause s x xs t) .scalar;
+    again = λ x xs t. kept (body (first (read rows cause) x xs)) (whole-sequence rows cause s x xs t) .again;
     back = λ c h. encoded c h .back;
     firm = λ c h ys. one (F .write c) ys (encoded c h .sequence);
   })
     where
-      one : (zs ys : List ℕ) → Sequence rows zs → cut (read rows) (zs ++ ys) ≡ asWhole zs ∷ cut (read rows) ys
+      one : (zs ys : List ℕ) → Sequence rows zs → cut (read rows cause) (zs ++ ys) ≡ asWhole zs ∷ cut (read rows cause) ys
       one [] ys m = absurd (no-empty rows m)
-      one (x ∷ xs) ys m = cut-sequence rows s x xs ys m
+      one (x ∷ xs) ys m = cut-sequence rows cause s x xs ys m

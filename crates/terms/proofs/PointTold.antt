@@ -6,7 +6,7 @@ use mathlib.Core.List.{List, [], _∷_}
 use lib.ListN.{length, getD, take, drop}
 use lib.Seq.{drop-cons}
 use native.Mathlib.Omega.{arith}
-use Rattle.theory.specs.Table.{Kind, whole, damage, isDamage}
+use Rattle.theory.specs.Table.{ended, Kind, whole, damage, isDamage}
 use Rattle.theory.proofs.Divisions.{Division, first-size}
 use Rattle.terms.specs.Form.{Form, replacement, pointSays}
 use Rattle.terms.specs.Told.{toldFirst, firstSays}
@@ -61,8 +61,8 @@ module _ (F : Form) (D : Division (F .look)) (text : List ℕ) where
         let f : F .look (s .head) (s .tail) .more ≤ length (s .tail) = D .fits (s .head) (s .tail) in
         record { seen-as = s; some = omega arith; inside = omega arith; says = point-of n whole true s }
 
-    pub point-damage : (n : ℕ) → r ≡ Damage n → replacement ∷ n ∷ [] ≡ pointSays F text
-    point-damage n e = point-of n damage true (seen (F .look) text n damage true (told-as (Damage n) e))
+    pub point-damage : (n c : ℕ) → r ≡ Damage n c → replacement ∷ n ∷ [] ≡ pointSays F text
+    point-damage n c e = point-of n (damage c) true (seen (F .look) text n (damage c) true (told-as (Damage n c) e))
 
     pub point-begun : (n : ℕ) → r ≡ Begun n → replacement ∷ n ∷ [] ≡ pointSays F text
-    point-begun n e = point-of n damage false (seen (F .look) text n damage false (told-as (Begun n) e))
+    point-begun n e = point-of n (damage ended) false (seen (F .look) text n (damage ended) false (told-as (Begun n) e))

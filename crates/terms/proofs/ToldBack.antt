@@ -23,12 +23,12 @@ unfoldable pub backRefusal : List ℕ → Refusal
 backRefusal l =
     let n = getD l 0 0 in
     let v = getD l 1 0 in
-    cond (eqb n 1) (Damaged v (getD l 2 0)) (cond (eqb n 2) OverLimit (cond (eqb n 3) (NoRoom v) (cond (eqb n 4) PastEnd
+    cond (eqb n 1) (Damaged v (getD l 2 0) (getD l 3 0)) (cond (eqb n 2) OverLimit (cond (eqb n 3) (NoRoom v) (cond (eqb n 4) PastEnd
     (cond (eqb n 5) Inside (cond (eqb n 6) (Unusable v) (cond (eqb n 7) ListRoom (cond (eqb n 8) BadState (NoScalar v))))))))
 
 pub refusal-back : (a : Refusal) → backRefusal (toldRefusal a) ≡ a
 unfolding backRefusal
-refusal-back (Damaged start length) = refl
+refusal-back (Damaged start length cause) = refl
 refusal-back OverLimit = refl
 refusal-back (NoRoom needed) = refl
 refusal-back PastEnd = refl
@@ -44,13 +44,13 @@ told-refusal = by-back toldRefusal backRefusal refusal-back
 backFirst : List ℕ → First
 backFirst l =
     let n = getD l 1 0 in
-    cond (eqb (length l) 0) Nothing (cond (eqb (getD l 2 0) 0) (Begun n) (cond (eqb (getD l 0 0) 0) (Whole n) (Damage n)))
+    cond (eqb (length l) 0) Nothing (cond (eqb (getD l 2 0) 0) (Begun n) (cond (eqb (getD l 0 0) 0) (Whole n) (Damage n (getD l 3 0))))
 
 first-back : (a : First) → backFirst (toldFirst a) ≡ a
 unfolding backFirst
 first-back Nothing = refl
 first-back (Whole n) = refl
-first-back (Damage n) = refl
+first-back (Damage n cause) = refl
 first-back (Begun n) = refl
 
 pub told-first : (a b : First) → toldFirst a ≡ toldFirst b → a ≡ b
@@ -61,7 +61,7 @@ abbrev pub number : Refusal → ℕ
 number r = getD (toldRefusal r) 0 0
 
 pub no-zero : (r : Refusal) → eqb (number r) 0 ≡ false
-no-zero (Damaged start length) = refl
+no-zero (Damaged start length cause) = refl
 no-zero OverLimit = refl
 no-zero (NoRoom needed) = refl
 no-zero PastEnd = refl

@@ -10,7 +10,7 @@ use borrow.Author.Tests.{lt-ltb, le-ltb, ltb-false}
 use native.Mathlib.Omega.{arith}
 use Rattle.theory.specs.Reader.{Reader, Segment, cut}
 use Rattle.theory.specs.Reader as reader
-use Rattle.theory.specs.Table.{Kind, whole, damage, isDamage}
+use Rattle.theory.specs.Table.{ended, Kind, whole, damage, isDamage, causeOf}
 use Rattle.theory.specs.Tally.{total, size, Entry, entries}
 use Rattle.theory.proofs.Divisions.{Division, first-size, cut-nil, cut-cons, cut-size}
 use Rattle.theory.proofs.Cases.{split}
@@ -51,11 +51,11 @@ pub record Seen (look : Reader Kind) (text : List ℕ) (n : ℕ) (kind : Kind) (
   pub kind-is : look head tail .tag ≡ kind
   pub sure-is : look head tail .sure ≡ sure
 
-kind-of : (k j : Kind) → bit (isDamage k) ≡ bit (isDamage j) → k ≡ j
-kind-of whole whole e = refl
-kind-of damage damage e = refl
-kind-of whole damage e = absurd (omega arith)
-kind-of damage whole e = absurd (omega arith)
+kind-of : (k j : Kind) → bit (isDamage k) ≡ bit (isDamage j) → causeOf k ≡ causeOf j → k ≡ j
+kind-of whole whole e c = refl
+kind-of (damage a) (damage b) e c = ap damage c
+kind-of whole (damage b) e c = absurd (omega arith)
+kind-of (damage a) whole e c = absurd (omega arith)
 
 sure-of : (a b : Bool) → bit a ≡ bit b → a ≡ b
 sure-of true true e = refl
@@ -63,15 +63,15 @@ sure-of false false e = refl
 sure-of true false e = absurd (omega arith)
 sure-of false true e = absurd (omega arith)
 
-pub seen : (look : Reader Kind) (text : List ℕ) (n : ℕ) (kind : Kind) (sure : Bool) → bit (isDamage kind) ∷ n ∷ bit sure ∷ [] ≡ firstSays look text
-    → Seen look text n kind sure
+pub seen : (look : Reader Kind) (text : List ℕ) (n : ℕ) (kind : Kind) (sure : Bool)
+    → bit (isDamage kind) ∷ n ∷ bit sure ∷ causeOf kind ∷ [] ≡ firstSays look text → Seen look text n kind sure
 seen look [] n kind sure e = let z : _≡_ {A = ℕ} 0 1 = cc in absurd (omega arith)
 seen look (x ∷ xs) n kind sure e = record {
   head = x;
   tail = xs;
   text-is = refl;
   long-is = cc;
-  kind-is = kind-of (look x xs .tag) kind (cc);
+  kind-is = kind-of (look x xs .tag) kind (cc) (cc);
   sure-is = sure-of (look x xs .sure) sure (cc);
 }
 
@@ -109,11 +109,11 @@ module _ {look : Reader Kind} (D : Division look) (text : List ℕ) (at : ℕ) w
     pub turn-whole : (n : ℕ) → r ≡ Whole n → Turn look text at n whole
     turn-whole n e = turn-of n whole true h (seen look (drop at text) n whole true (told-as (Whole n) e))
 
-    pub turn-damage : (n : ℕ) → r ≡ Damage n → Turn look text at n damage
-    turn-damage n e = turn-of n damage true h (seen look (drop at text) n damage true (told-as (Damage n) e))
+    pub turn-damage : (n c : ℕ) → r ≡ Damage n c → Turn look text at n (damage c)
+    turn-damage n c e = turn-of n (damage c) true h (seen look (drop at text) n (damage c) true (told-as (Damage n c) e))
 
-    pub turn-begun : (n : ℕ) → r ≡ Begun n → Turn look text at n damage
-    turn-begun n e = turn-of n damage false h (seen look (drop at text) n damage false (told-as (Begun n) e))
+    pub turn-begun : (n : ℕ) → r ≡ Begun n → Turn look text at n (damage ended)
+    turn-begun n e = turn-of n (damage ended) false h (seen look (drop at text) n (damage ended) false (told-as (Begun n) e))
 
     -- the walk has come to the end
     pub turn-end : r ≡ Nothing → drop at text ≡ []
@@ -126,7 +126,7 @@ module _ {look : Reader Kind} (D : Division look) (text : List ℕ) (at : ℕ) w
         go : (q : First) → r ≡ q → (0 < sizeOf q) × (at + sizeOf q ≤ length text)
         go Nothing e = let z : length (drop at text) ≡ 0 = ap length (turn-end e) in absurd (omega (arith, length-drop at text))
         go (Whole n) e = let t = turn-whole n e in (t .some, t .inside)
-        go (Damage n) e = let t = turn-damage n e in (t .some, t .inside)
+        go (Damage n c) e = let t = turn-damage n c e in (t .some, t .inside)
         go (Begun n) e = let t = turn-begun n e in (t .some, t .inside)
 
 -- ---- the strict check: up to the place that the walk has come to there is no damage
@@ -147,9 +147,9 @@ module _ {look : Reader Kind} (text : List ℕ) (at : ℕ) (c : Clean look text 
     pub check-end : drop at text ≡ [] → granted ≡ limited text (strictly refuse (damages look text) granted)
     check-end e = let d : damages look text ≡ [] = c .same ∙ rw (e, cut-nil) in rw (le-ltb limit (length text) h, d)
 
-    pub check-damage : (n : ℕ) → Turn look text at n damage
-        → refuse (record { start = at; long = n; tag = damage }) ≡ limited text (strictly refuse (damages look text) granted)
-    check-damage n t = rw (le-ltb limit (length text) h, c .same, t .cuts, t .kind-is, t .size-is)
+    pub check-damage : (n cause : ℕ) → Turn look text at n (damage cause)
+        → refuse (record { start = at; long = n; tag = damage cause }) ≡ limited text (strictly refuse (damages look text) granted)
+    check-damage n cause t = rw (le-ltb limit (length text) h, c .same, t .cuts, t .kind-is, t .size-is)
 
 -- refusal 2 goes before
 pub check-over : (text granted : List ℕ) → limit < length text → 2 ∷ [] ≡ limited text granted
@@ -168,13 +168,13 @@ entries-within at (s ∷ ss) e es q = split (isDamage (s .tag))
     omega arith)
     (λ d. omega (arith, entries-within (at + size s) ss e es (rw d at q)))
 
-pub damage-within : (look : Reader Kind) (text : List ℕ) (start long : ℕ) → 1 ∷ start ∷ long ∷ [] ≡ checkSays look text
+pub damage-within : (look : Reader Kind) (text : List ℕ) (start long cause : ℕ) → 1 ∷ start ∷ long ∷ cause ∷ [] ≡ checkSays look text
     → (start + long ≤ length text) × (length text ≤ limit)
-damage-within look text start long q = split (ltb limit (length text))
+damage-within look text start long cause q = split (ltb limit (length text))
     (λ t. let z : _≡_ {A = ℕ} 1 2 = cc in absurd (omega arith))
     (λ t. (go (damages look text) refl (rw t at q), ltb-false limit (length text) t))
   where
-    go : (ds : List (Entry Kind)) → damages look text ≡ ds → 1 ∷ start ∷ long ∷ [] ≡ strictly damaged ds (0 ∷ []) → start + long ≤ length text
+    go : (ds : List (Entry Kind)) → damages look text ≡ ds → 1 ∷ start ∷ long ∷ cause ∷ [] ≡ strictly damaged ds (0 ∷ []) → start + long ≤ length text
     go [] e p = let z : _≡_ {A = ℕ} 1 0 = cc in absurd (omega arith)
     go (d ∷ ds) e p =
         let a : start ≡ d .start = cc in

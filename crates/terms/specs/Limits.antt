@@ -11,9 +11,9 @@ limit = 16777216
 abbrev pub mostRoom : ℕ
 mostRoom = 4096
 
--- the numbers that a damage entry takes in its list: start and length
+-- the numbers that a damage entry takes in its list: start, length and cause
 abbrev pub entryWidth : ℕ
-entryWidth = 2
+entryWidth = 3
 
 -- the most bytes that are pending, and as many places, in which none is held
 abbrev pub mostPending : ℕ

@@ -5,7 +5,7 @@ use mathlib.Core.List.{List, [], _∷_}
 use lib.ListN.{length}
 use lib.Dec.{ltb}
 use Rattle.theory.specs.Reader.{Reader, cut}
-use Rattle.theory.specs.Table.{Kind, isDamage}
+use Rattle.theory.specs.Table.{Kind, isDamage, causeOf}
 use Rattle.theory.specs.Tally.{Entry, entries}
 use Rattle.terms.specs.Limits.{limit}
 
@@ -18,9 +18,9 @@ abbrev pub strictly : (Entry Kind → List ℕ) → List (Entry Kind) → List �
 strictly refuse [] granted = granted
 strictly refuse (e ∷ es) granted = refuse e
 
--- refusal 1 tells the start and the length of the damage
+-- refusal 1 tells the start, the length and the cause of the damage
 abbrev pub damaged : Entry Kind → List ℕ
-damaged e = 1 ∷ e .start ∷ e .long ∷ []
+damaged e = 1 ∷ e .start ∷ e .long ∷ causeOf (e .tag) ∷ []
 
 -- refusal 2 where a text is over the limit
 abbrev pub limited : List ℕ → List ℕ → List ℕ

@@ -5,7 +5,7 @@ use mathlib.Core.List.{List, [], _∷_}
 use lib.ListN.{getD}
 use lib.Dec.{eqb}
 use Rattle.theory.specs.Reader.{Look, Reader}
-use Rattle.theory.specs.Table.{Kind, isDamage}
+use Rattle.theory.specs.Table.{ended, Kind, isDamage, causeOf}
 use Rattle.terms.specs.declared.First.{First}
 use Rattle.terms.specs.declared.First.the-variants.{Nothing, Whole, Damage, Begun}
 use Rattle.terms.specs.declared.Refusal.{Refusal}
@@ -17,7 +17,7 @@ use Rattle.terms.specs.declared.Written.the-variants as the-written
 
 -- THE TABLE OF REFUSALS
 abbrev pub toldRefusal : Refusal → List ℕ
-toldRefusal (Damaged start length) = 1 ∷ start ∷ length ∷ []
+toldRefusal (Damaged start length cause) = 1 ∷ start ∷ length ∷ cause ∷ []
 toldRefusal OverLimit = 2 ∷ []
 toldRefusal (NoRoom needed) = 3 ∷ needed ∷ []
 toldRefusal PastEnd = 4 ∷ []
@@ -27,19 +27,26 @@ toldRefusal ListRoom = 7 ∷ []
 toldRefusal BadState = 8 ∷ []
 toldRefusal (NoScalar position) = 9 ∷ position ∷ []
 
--- what stands first: 0 for whole and 1 for damage, the number of elements, and 1 if that is sure, whatever follows
+-- what stands first: 0 for whole and 1 for damage, the number of elements, 1 if that is sure, whatever follows, and the cause
 abbrev pub toldFirst : First → List ℕ
 toldFirst Nothing = []
-toldFirst (Whole n) = 0 ∷ n ∷ 1 ∷ []
-toldFirst (Damage n) = 1 ∷ n ∷ 1 ∷ []
-toldFirst (Begun n) = 1 ∷ n ∷ 0 ∷ []
+toldFirst (Whole n) = 0 ∷ n ∷ 1 ∷ 0 ∷ []
+toldFirst (Damage n cause) = 1 ∷ n ∷ 1 ∷ cause ∷ []
+toldFirst (Begun n) = 1 ∷ n ∷ 0 ∷ ended ∷ []
 
 -- how many elements it has
 abbrev pub sizeOf : First → ℕ
 sizeOf Nothing = 0
 sizeOf (Whole n) = n
-sizeOf (Damage n) = n
+sizeOf (Damage n cause) = n
 sizeOf (Begun n) = n
+
+-- why it is damaged, 0 where it is not
+abbrev pub causeTold : First → ℕ
+causeTold Nothing = 0
+causeTold (Whole n) = 0
+causeTold (Damage n cause) = cause
+causeTold (Begun n) = ended
 
 abbrev pub toldChecked : Checked → List ℕ
 toldChecked the-checked.WellFormed = 0 ∷ []
@@ -55,7 +62,7 @@ bit b = cond b 1 0
 
 -- WHAT THE SEGMENT READER TELLS of a look, and of a text
 abbrev pub lookSays : Look Kind → List ℕ
-lookSays l = bit (isDamage (l .tag)) ∷ suc (l .more) ∷ bit (l .sure) ∷ []
+lookSays l = bit (isDamage (l .tag)) ∷ suc (l .more) ∷ bit (l .sure) ∷ causeOf (l .tag) ∷ []
 
 abbrev pub firstSays : Reader Kind → List ℕ → List ℕ
 firstSays look [] = []

@@ -3,7 +3,7 @@ ghost use mathlib.Core.Path.{_≡_};
 ghost use mathlib.Core.List.{[], _∷_};
 ghost use lib.ListN.{getD};
 ghost use Rattle.terms.specs.Limits.{freshOf};
-ghost use Rattle.terms.specs.Told.{sizeOf, toldRefusal, toldChecked};
+ghost use Rattle.terms.specs.Told.{sizeOf, causeTold, toldRefusal, toldChecked};
 
 // The decoder of a byte text that comes in pieces: what it keeps between two pieces. The limits belong to it.
 #[repr(C)]
@@ -25,8 +25,8 @@ impl Decoder {
     pub const LIMIT: usize = 16_777_216;
     // The most entries that a damage list has room for.
     pub const ROOM: usize = 4_096;
-    // The numbers that an entry takes in its list: start and length.
-    pub const ENTRY: usize = 2;
+    // The numbers that an entry takes in its list: start, length and cause.
+    pub const ENTRY: usize = 3;
     // The most bytes that are pending.
     pub const PENDING: usize = 3;
     // The most bytes of a damage.
@@ -48,16 +48,25 @@ impl Decoder {
     }
 }
 
-// What stands first in a text: nothing, as it is empty; a whole segment of so many elements; damage of so many; or damage
+// What stands first in a text: nothing, as it is empty; a whole segment of so many elements; damage of so many, and its cause; or damage
 // that ends the text and begins a well-formed sequence, so that more text could still make it whole.
 pub enum First {
     Nothing,
     Whole(usize),
-    Damage(usize),
+    Damage(usize, u32),
     Begun(usize),
 }
 
 impl First {
+    // The causes of damage: an element that only goes on with sequences, and none goes on here.
+    pub const STRAY: u32 = 1;
+    // An element that stands in no sequence.
+    pub const FOREIGN: u32 = 2;
+    // A begun sequence that another element stops.
+    pub const STOPPED: u32 = 3;
+    // A begun sequence that the end of the text stops.
+    pub const ENDED: u32 = 4;
+
     // How many elements it has.
     pub fn size(self) -> usize
         ensures { λ r. ⌜ r ≡ sizeOf self ⌝ }
@@ -65,8 +74,20 @@ impl First {
         match self {
             First::Nothing => 0,
             First::Whole(n) => n,
-            First::Damage(n) => n,
+            First::Damage(n, _) => n,
             First::Begun(n) => n,
+        }
+    }
+
+    // Why it is damaged, 0 where it is not.
+    pub fn cause(self) -> u32
+        ensures { λ r. ⌜ r ≡ causeTold self ⌝ }
+    {
+        match self {
+            First::Nothing => 0,
+            First::Whole(_) => 0,
+            First::Damage(_, cause) => cause,
+            First::Begun(_) => First::ENDED,
         }
     }
 }
@@ -80,15 +101,25 @@ pub struct Point {
 
 // Why a call refuses, in the order of the numbers 1 to 9.
 pub enum Refusal {
-    Damaged { start: usize, length: usize },
+    Damaged {
+        start: usize,
+        length: usize,
+        cause: u32,
+    },
     OverLimit,
-    NoRoom { needed: usize },
+    NoRoom {
+        needed: usize,
+    },
     PastEnd,
     Inside,
-    Unusable { checkpoint: usize },
+    Unusable {
+        checkpoint: usize,
+    },
     ListRoom,
     BadState,
-    NoScalar { position: usize },
+    NoScalar {
+        position: usize,
+    },
 }
 
 impl Refusal {
@@ -100,6 +131,7 @@ impl Refusal {
             Refusal::Damaged {
                 start: _,
                 length: _,
+                cause: _,
             } => 1,
             Refusal::OverLimit => 2,
             Refusal::NoRoom { needed: _ } => 3,
@@ -117,7 +149,11 @@ impl Refusal {
         ensures { λ r. ⌜ r ≡ getD (toldRefusal self) 1 0 ⌝ }
     {
         match self {
-            Refusal::Damaged { start, length: _ } => start,
+            Refusal::Damaged {
+                start,
+                length: _,
+                cause: _,
+            } => start,
             Refusal::OverLimit => 0,
             Refusal::NoRoom { needed } => needed,
             Refusal::PastEnd => 0,
@@ -134,7 +170,32 @@ impl Refusal {
         ensures { λ r. ⌜ r ≡ getD (toldRefusal self) 2 0 ⌝ }
     {
         match self {
-            Refusal::Damaged { start: _, length } => length,
+            Refusal::Damaged {
+                start: _,
+                length,
+                cause: _,
+            } => length,
+            Refusal::OverLimit => 0,
+            Refusal::NoRoom { needed: _ } => 0,
+            Refusal::PastEnd => 0,
+            Refusal::Inside => 0,
+            Refusal::Unusable { checkpoint: _ } => 0,
+            Refusal::ListRoom => 0,
+            Refusal::BadState => 0,
+            Refusal::NoScalar { position: _ } => 0,
+        }
+    }
+
+    // The third value that it tells, 0 where it tells none.
+    pub fn third_value(self) -> usize
+        ensures { λ r. ⌜ r ≡ getD (toldRefusal self) 3 0 ⌝ }
+    {
+        match self {
+            Refusal::Damaged {
+                start: _,
+                length: _,
+                cause,
+            } => cause as usize,
             Refusal::OverLimit => 0,
             Refusal::NoRoom { needed: _ } => 0,
             Refusal::PastEnd => 0,
@@ -155,10 +216,14 @@ pub enum Checked {
 
 impl Checked {
     // Refusal 1 with the first damage.
-    pub fn damaged(start: usize, length: usize) -> Checked
-        ensures { λ r. ⌜ toldChecked r ≡ 1 ∷ start ∷ length ∷ [] ⌝ }
+    pub fn damaged(start: usize, length: usize, cause: u32) -> Checked
+        ensures { λ r. ⌜ toldChecked r ≡ 1 ∷ start ∷ length ∷ cause ∷ [] ⌝ }
     {
-        Checked::Refused(Refusal::Damaged { start, length })
+        Checked::Refused(Refusal::Damaged {
+            start,
+            length,
+            cause,
+        })
     }
 }
 

@@ -20,10 +20,12 @@ pub mod PlacesFound
 pub mod TrueIndexAnswers
 -- The laws of the index builder: two calls are one, the cutting does not matter, and what is built is a true index
 pub mod BuiltIsTrue
--- The laws of a reader by a table, for any table: it is a division, holds little back, and its damage is short
+-- The laws of a reader by a table, for any table: it is a division, holds little back, its damage is short, and only what is held back ends
 pub mod TableDivides
 -- That a table's reader reads the paper's segments, and that a text divides in exactly one way, for any table whose rows do not meet
 pub mod OneDivision
+-- That a segment is read with the cause of which the paper's sentence is true of it, and with no other, for any table whose rows do not meet
+pub mod CausesTold
 -- The sequences of a table, row by row
 pub mod SequencesAreWhole
 -- That what is pending is exactly nothing or a proper beginning of a well-formed sequence, for any table whose rows do not meet

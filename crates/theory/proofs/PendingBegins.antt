@@ -17,43 +17,43 @@ use Rattle.theory.proofs.TableDivides.{widest, table-division, table-ho
 use Rattle.theory.proofs.OneDivision.{Sound, unsure-begun}
 use Rattle.theory.proofs.SequencesAreWhole.{read-sequence}
 
-module _ (rows : List Row) (s : Sound zero rows) where
-  read-all : (x : ℕ) (xs : List ℕ) → Sequence rows (x ∷ xs) → read rows x xs ≡ record { more = length xs; tag = whole; sure = true }
-  read-all x xs m = rw append-nil at (read-sequence rows s x xs [] m)
+module _ (rows : List Row) (cause : ℕ → ℕ) (s : Sound zero rows) where
+  read-all : (x : ℕ) (xs : List ℕ) → Sequence rows (x ∷ xs) → read rows cause x xs ≡ record { more = length xs; tag = whole; sure = true }
+  read-all x xs m = rw append-nil at (read-sequence rows cause s x xs [] m)
 
   -- what is not sure is no sequence yet: others are missing
-  some-missing : (x : ℕ) (xs others : List ℕ) → read rows x xs .sure ≡ false → Sequence rows (x ∷ (xs ++ others)) → 0 < length others
+  some-missing : (x : ℕ) (xs others : List ℕ) → read rows cause x xs .sure ≡ false → Sequence rows (x ∷ (xs ++ others)) → 0 < length others
   some-missing x xs [] e m =
       let q : Sequence rows (x ∷ xs) = rw append-nil at m in
       absurd (true≢false (sym (ap (λ (l : Look Kind). l .sure) (read-all x xs q)) ∙ e))
   some-missing x xs (o ∷ os) e m = omega arith
 
-  unsure-begins : (x : ℕ) (xs : List ℕ) → read rows x xs .sure ≡ false → ProperBeginning rows (x ∷ xs)
+  unsure-begins : (x : ℕ) (xs : List ℕ) → read rows cause x xs .sure ≡ false → ProperBeginning rows (x ∷ xs)
   unsure-begins x xs e =
-      let n : read rows x xs .more ≡ length xs = takes-all (table-division rows) (widest rows) (table-holds rows) x xs e in
-      let b = unsure-begun rows s x xs e in
+      let n : read rows cause x xs .more ≡ length xs = takes-all (table-division rows cause) (widest rows) (table-holds rows cause) x xs e in
+      let b = unsure-begun rows cause s x xs e in
       let m : Sequence rows (x ∷ (xs ++ b .others)) = rw (n, take-length xs) at (b .sequence) in
       record { some = omega arith; others = b .others; missing = some-missing x xs (b .others) e m; sequence = m }
 
   -- were it sure, it would stand when the others come, and they belong to the segment
-  begins-unsure : (x : ℕ) (xs : List ℕ) → ProperBeginning rows (x ∷ xs) → read rows x xs .sure ≡ false
-  begins-unsure x xs p = split (read rows x xs .sure)
+  begins-unsure : (x : ℕ) (xs : List ℕ) → ProperBeginning rows (x ∷ xs) → read rows cause x xs .sure ≡ false
+  begins-unsure x xs p = split (read rows cause x xs .sure)
       (λ e.
-      let r : read rows x xs ≡ record { more = length (xs ++ p .others); tag = whole; sure = true }
-      = sym (table-division rows .stable x xs (p .others) e) ∙ read-all x (xs ++ p .others) (p .sequence) in
-      let n : read rows x xs .more ≡ length (xs ++ p .others) = ap (λ (l : Look Kind). l .more) r in
-      absurd (omega (arith, n, table-division rows .fits x xs, length-append xs (p .others), p .missing)))
+      let r : read rows cause x xs ≡ record { more = length (xs ++ p .others); tag = whole; sure = true }
+      = sym (table-division rows cause .stable x xs (p .others) e) ∙ read-all x (xs ++ p .others) (p .sequence) in
+      let n : read rows cause x xs .more ≡ length (xs ++ p .others) = ap (λ (l : Look Kind). l .more) r in
+      absurd (omega (arith, n, table-division rows cause .fits x xs, length-append xs (p .others), p .missing)))
       (λ e. e)
 
   -- PENDING IS EXACTLY THAT
-  pub pending-exactly : (xs : List ℕ) → (pending (read rows) xs ≡ true) ↔ Pending rows xs
+  pub pending-exactly : (xs : List ℕ) → (pending (read rows cause) xs ≡ true) ↔ Pending rows xs
   pending-exactly xs = (to xs, from xs)
     where
-      to : (xs : List ℕ) → pending (read rows) xs ≡ true → Pending rows xs
+      to : (xs : List ℕ) → pending (read rows cause) xs ≡ true → Pending rows xs
       to [] p = inl refl
-      to (x ∷ xs) p = inr (unsure-begins x xs (not-true (read rows x xs .sure) p))
+      to (x ∷ xs) p = inr (unsure-begins x xs (not-true (read rows cause x xs .sure) p))
 
-      from : (xs : List ℕ) → Pending rows xs → pending (read rows) xs ≡ true
+      from : (xs : List ℕ) → Pending rows xs → pending (read rows cause) xs ≡ true
       from [] a = refl
       from (x ∷ xs) (inl e) = absurd (cons≢nil e)
       from (x ∷ xs) (inr p) = rw (begins-unsure x xs p)

@@ -67,25 +67,25 @@ by-rows rows Q = from-rows rows Q ((xs : List ℕ) → Sequence rows xs → Q xs
 
 -- ---- sequences and what is read
 
-module _ (rows : List Row) (s : Sound zero rows) where
+module _ (rows : List Row) (cause : ℕ → ℕ) (s : Sound zero rows) where
   -- A SEQUENCE IS READ AS ONE WHOLE SEGMENT, whatever follows
   pub read-sequence : (x : ℕ) (xs ys : List ℕ) → Sequence rows (x ∷ xs)
-      → read rows x (xs ++ ys) ≡ record { more = length xs; tag = whole; sure = true }
+      → read rows cause x (xs ++ ys) ≡ record { more = length xs; tag = whole; sure = true }
   read-sequence x xs ys m =
       let w : Whole rows (x ∷ (xs ++ ys)) (suc (length xs)) = record {
         inside = omega (arith, length-append xs ys);
         sequence = rw (take-append-seam xs ys) m;
       } in
-      let o = only-read rows s x (xs ++ ys) (suc (length xs)) whole w in
-      let n : read rows x (xs ++ ys) .more ≡ length xs = omega (arith, o .0) in
-      let t : isDamage (read rows x (xs ++ ys) .tag) ≡ false = cc (o .1) in
-      let u = table-whole rows x (xs ++ ys) t in
+      let o = only-read rows cause s x (xs ++ ys) (suc (length xs)) whole w in
+      let n : read rows cause x (xs ++ ys) .more ≡ length xs = omega (arith, o .0) in
+      let t : isDamage (read rows cause x (xs ++ ys) .tag) ≡ false = cc (o .1) in
+      let u = table-whole rows cause x (xs ++ ys) t in
       λ i. record { more = n i; tag = sym (o .1) i; sure = u i }
 
   pub cut-sequence : (x : ℕ) (xs ys : List ℕ) → Sequence rows (x ∷ xs)
-      → cut (read rows) (x ∷ (xs ++ ys)) ≡ record { head = x; tail = xs; tag = whole } ∷ cut (read rows) ys
-  cut-sequence x xs ys m = cut-cons (read rows) x (xs ++ ys) ∙ rw (read-sequence x xs ys m, take-append-seam xs ys, drop-append-seam xs ys)
+      → cut (read rows cause) (x ∷ (xs ++ ys)) ≡ record { head = x; tail = xs; tag = whole } ∷ cut (read rows cause) ys
+  cut-sequence x xs ys m = cut-cons (read rows cause) x (xs ++ ys) ∙ rw (read-sequence x xs ys m, take-append-seam xs ys, drop-append-seam xs ys)
 
   -- and a whole segment is a sequence
-  pub whole-sequence : (x : ℕ) (xs : List ℕ) → read rows x xs .tag ≡ whole → Sequence rows (x ∷ take (read rows x xs .more) xs)
-  whole-sequence x xs e = subst (λ (t : Kind). Stands rows (x ∷ xs) (suc (read rows x xs .more)) t) e (stands-read rows s x xs) .sequence
+  pub whole-sequence : (x : ℕ) (xs : List ℕ) → read rows cause x xs .tag ≡ whole → Sequence rows (x ∷ take (read rows cause x xs .more) xs)
+  whole-sequence x xs e = subst (λ (t : Kind). Stands rows (x ∷ xs) cause (suc (read rows cause x xs .more)) t) e (stands-read rows cause s x xs) .sequence
