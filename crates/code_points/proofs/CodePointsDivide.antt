@@ -5,6 +5,7 @@ use mathlib.Core.Bool.{true, false}
 use mathlib.Core.List.{List}
 use lib.ListN.{length, getD}
 use native.Mathlib.Omega.{arith}
+use Rattle.theory.specs.Table.{foreign}
 use Rattle.theory.proofs.Cases.{split}
 use Rattle.theory.proofs.Divisions.{Division, cut-cons}
 use Rattle.terms.specs.Form.{isScalar}
@@ -35,6 +36,6 @@ module _ (text : List ℕ) (some-there : 0 < length text) where
   unfolding points
   first-scalar s = sym (says-look points text some-there ∙ rw s)
 
-  pub first-other : isScalar (getD text 0 0) ≡ false → toldFirst (Damage 1) ≡ firstSays points text
+  pub first-other : isScalar (getD text 0 0) ≡ false → toldFirst (Damage 1 foreign) ≡ firstSays points text
   unfolding points
   first-other s = sym (says-look points text some-there ∙ rw s)

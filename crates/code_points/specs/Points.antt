@@ -3,14 +3,14 @@ use Prim.Native.Nat.{ℕ}
 use mathlib.Core.Bool.{true, cond}
 use mathlib.Core.List.{List, [], _∷_}
 use Rattle.theory.specs.Reader.{Reader}
-use Rattle.theory.specs.Table.{Kind, whole, damage}
+use Rattle.theory.specs.Table.{foreign, Kind, whole, damage}
 use Rattle.theory.specs.Tally.{Entry}
 use Rattle.terms.specs.Form.{isScalar, Form}
 use Rattle.terms.specs.Strict.{damages, strictly, limited}
 
--- the reader of texts of code points
+-- the reader of texts of code points: a number that is no scalar value stands in no text
 unfoldable pub points : Reader Kind
-points x xs = record { more = 0; tag = cond (isScalar x) whole damage; sure = true }
+points x xs = record { more = 0; tag = cond (isScalar x) whole (damage foreign); sure = true }
 
 abbrev pub number : List ℕ → ℕ
 number [] = 0

@@ -27,7 +27,7 @@ pub fn segment(text: &[u32]) -> First
     if is_scalar(text[0]) {
         return First::Whole(1);
     }
-    First::Damage(1)
+    First::Damage(1, First::FOREIGN)
 }
 
 // The code point that stands first in a text.
@@ -40,7 +40,7 @@ pub fn point(text: &[u32]) -> Point
             number: text[0],
             size: n,
         },
-        First::Damage(n) => Point {
+        First::Damage(n, _) => Point {
             number: 0xFFFD,
             size: n,
         },
@@ -63,7 +63,7 @@ pub fn check(text: &[u32]) -> Checked
         match segment(&text[at..]) {
             First::Nothing => return Checked::WellFormed,
             First::Whole(n) => at += n,
-            First::Damage(_) => return Checked::Refused(Refusal::NoScalar { position: at }),
+            First::Damage(_, _) => return Checked::Refused(Refusal::NoScalar { position: at }),
             First::Begun(_) => return Checked::Refused(Refusal::NoScalar { position: at }),
         }
     }

@@ -11,7 +11,7 @@ use Rattle.theory.proofs.Cases.{under}
 use Rattle.theory.proofs.SequencesAreWhole.{by-rows}
 use Rattle.terms.specs.Form.{isScalar}
 use Rattle.terms.proofs.FaithfulForms.{is-scalar, of-scalar, Faithful, Kept, Encoded, by-row, table-faithful}
-use Rattle.utf16.specs.Units.{rows, units}
+use Rattle.utf16.specs.Units.{rows, loneUnit, units}
 use Rattle.utf16.specs.Scalar.{number, pair, utf16}
 use Rattle.utf16.proofs.RowsOfUnits.{rows-sound}
 
@@ -29,13 +29,13 @@ module _ (c : ℕ) where
 
 -- ---- a scalar value is encoded by a row's units, and decoded again
 
-encoded : (c : ℕ) → isScalar c ≡ true → Encoded utf16 rows c
+encoded : (c : ℕ) → isScalar c ≡ true → Encoded utf16 rows loneUnit c
 unfolding rows
 encoded c s = ⊎-elim
-    (λ h. by-row utf16 rows c 0 (c ∷ []) (is-one c (omega arith)) refl (omega arith))
+    (λ h. by-row utf16 rows loneUnit c 0 (c ∷ []) (is-one c (omega arith)) refl (omega arith))
     (λ h. under c 0x10000
-    (λ l. by-row utf16 rows c 2 (c ∷ []) (is-one c l) refl (omega arith))
-    (λ l. by-row utf16 rows c 1 (two c) (is-two c l) (omega arith) (omega arith)))
+    (λ l. by-row utf16 rows loneUnit c 2 (c ∷ []) (is-one c l) refl (omega arith))
+    (λ l. by-row utf16 rows loneUnit c 1 (two c) (is-two c l) (omega arith) (omega arith)))
     (of-scalar c s)
 
 -- ---- a unit or a pair stands for a scalar value, which is encoded as it
@@ -53,4 +53,4 @@ kept = by-rows rows (Kept utf16)
 
 pub utf16-faithful : Faithful utf16
 unfolding units
-utf16-faithful = table-faithful utf16 rows refl rows-sound kept encoded
+utf16-faithful = table-faithful utf16 rows loneUnit refl rows-sound kept encoded

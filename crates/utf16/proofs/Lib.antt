@@ -1,5 +1,7 @@
 -- The rows of the unit table
 pub mod RowsOfUnits
+-- A SEGMENT OF UNITS IS READ WITH EXACTLY ONE CAUSE, that of the paper's sentence
+pub mod CausesOfUnits
 -- Strict reading accepts exactly the well-formed texts of units within the limit
 pub mod AcceptsWellFormed
 -- What the reader of units tells, from the tests that its code makes

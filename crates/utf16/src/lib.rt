@@ -25,17 +25,17 @@ pub fn segment(text: &[u16]) -> First
         return First::Whole(1);
     }
     if 0xDBFF < x {
-        return First::Damage(1);
+        return First::Damage(1, First::STRAY);
     }
     if text.len() < 2 {
         return First::Begun(1);
     }
     let y = text[1];
     if y < 0xDC00 {
-        return First::Damage(1);
+        return First::Damage(1, First::STOPPED);
     }
     if 0xDFFF < y {
-        return First::Damage(1);
+        return First::Damage(1, First::STOPPED);
     }
     First::Whole(2)
 }
@@ -63,7 +63,7 @@ pub fn point(text: &[u16]) -> Point
                 size: n,
             }
         }
-        First::Damage(n) => Point {
+        First::Damage(n, _) => Point {
             number: 0xFFFD,
             size: n,
         },

@@ -93,8 +93,8 @@ pub fn check(text: &[u16]) -> Checked
         match utf16::segment(&text[at..]) {
             First::Nothing => return Checked::WellFormed,
             First::Whole(n) => at += n,
-            First::Damage(n) => return Checked::damaged(at, n),
-            First::Begun(n) => return Checked::damaged(at, n),
+            First::Damage(n, cause) => return Checked::damaged(at, n, cause),
+            First::Begun(n) => return Checked::damaged(at, n, First::ENDED),
         }
     }
 }

@@ -7,9 +7,9 @@ use mathlib.Core.List.{List, []}
 use lib.ListN.{length, getD}
 use lib.Dec.{eqb}
 use borrow.Author.Tests.{eqb-true, eq-eqb, lt-ltb}
-use Rattle.theory.specs.Table.{Range}
+use Rattle.theory.specs.Table.{Range, among}
 use Rattle.theory.proofs.EveryEntry.{everyFrom, at-entry}
-use Rattle.utf8.specs.Classes.{classes, amongRanges, inClass, unclassed, classIn}
+use Rattle.utf8.specs.Classes.{classes, inClass, unclassed, classIn}
 
 -- a table that gives each byte the class in whose ranges it lies
 abbrev pub Ruled : List ℕ → Type 0
@@ -33,7 +33,7 @@ same-is false false e = refl
 
 -- an entry is the number of the class whose ranges have its place, and of no other
 abbrev pub rightAt : ℕ → ℕ → Bool
-rightAt b x = everyFrom (λ (c : ℕ) (rs : List Range). same (amongRanges rs b) (eqb x c)) 0 classes
+rightAt b x = everyFrom (λ (c : ℕ) (rs : List Range). same (among rs b) (eqb x c)) 0 classes
 
 pub by-test : (table : List ℕ) → length table ≡ 256 → everyFrom rightAt 0 table ≡ true → Ruled table
 unfolding classes
@@ -41,4 +41,4 @@ by-test table n e b c h k =
     let right = at-entry rightAt table e b 0 (rw n h) in
     rw (lt-ltb b 256 h)
     (same-is (inClass c b) (eqb (getD table b 0) c)
-    (at-entry (λ (i : ℕ) (rs : List Range). same (amongRanges rs b) (eqb (getD table b 0) i)) classes right c [] k))
+    (at-entry (λ (i : ℕ) (rs : List Range). same (among rs b) (eqb (getD table b 0) i)) classes right c [] k))

@@ -4,12 +4,12 @@ use mathlib.Core.List.{List, map}
 use Rattle.theory.specs.Table.{read}
 use Rattle.theory.proofs.Divisions.{Division, through-division}
 use Rattle.theory.proofs.TableDivides.{table-division, table-top}
-use Rattle.utf8.specs.Classes.{classIn, rowsOfClasses, byClasses}
+use Rattle.utf8.specs.Classes.{classIn, rowsOfClasses, loneClass, byClasses}
 
 pub classes-division : (table : List ℕ) → Division (byClasses table)
 unfolding byClasses
-classes-division table = through-division (read rowsOfClasses) (classIn table) (table-division rowsOfClasses)
+classes-division table = through-division (read rowsOfClasses loneClass) (classIn table) (table-division rowsOfClasses loneClass)
 
 pub classes-top : (table : List ℕ) (x : ℕ) (xs : List ℕ) → byClasses table x xs .more ≤ 3
 unfolding byClasses rowsOfClasses
-classes-top table x xs = table-top rowsOfClasses (classIn table x) (map (classIn table) xs)
+classes-top table x xs = table-top rowsOfClasses loneClass (classIn table x) (map (classIn table) xs)

@@ -7,13 +7,13 @@ use mathlib.Core.List.{List, [], _∷_, map}
 use mathlib.Core.Option.{none, some}
 use borrow.Author.Tests.{eqb-true, eqb-false, le-ltb}
 use native.Mathlib.Omega.{arith}
-use Rattle.theory.specs.Table.{Range, _to_, within, want, wantedBehind}
+use Rattle.theory.specs.Table.{Range, _to_, within, among, want, wantedBehind}
 use Rattle.theory.proofs.Cases.{under}
 use Rattle.theory.proofs.TableDivides.{in-yes, in-under, in-over}
 use Rattle.terms.specs.Form.{pointSays}
 use Rattle.terms.specs.Told.{firstSays}
 use Rattle.utf8.specs.Bytes.{row, next, rows, bytes}
-use Rattle.utf8.specs.Classes.{classes, amongRanges, inClass, unclassed, classIn, anyLater, rowsOfClasses, byClasses}
+use Rattle.utf8.specs.Classes.{classes, inClass, unclassed, classIn, anyLater, rowsOfClasses, byClasses}
 use Rattle.utf8.specs.Scalar.{number, sequence, utf8, utf8By}
 use Rattle.utf8.proofs.ClassRule.{Ruled, class-rule, by-test}
 use Rattle.utf8.proofs.ClassesWanted.{not-among, none-of}
@@ -21,17 +21,17 @@ use Rattle.utf8.proofs.RowsOfBytes.{at-row, at-none}
 
 -- ---- a number and a class's ranges
 
-among-first : (r : Range) (rs : List Range) (x : ℕ) → r .low ≤ x → x ≤ r .high → amongRanges (r ∷ rs) x ≡ true
+among-first : (r : Range) (rs : List Range) (x : ℕ) → r .low ≤ x → x ≤ r .high → among (r ∷ rs) x ≡ true
 among-first r rs x l h = rw (in-yes r x l h)
 
 -- a range of later bytes has no other
 range-outside : (r : Range) (x : ℕ) → 0x80 ≤ r .low → r .high ≤ 0xBF → (x < 0x80) ⊎ (0xBF < x) → within r x ≡ false
 range-outside r x l h o = ⊎-elim (λ a. in-under r x (omega arith)) (λ a. in-over r x (omega arith)) o
 
-outside : (r : Range) (x : ℕ) → 0x80 ≤ r .low → r .high ≤ 0xBF → (x < 0x80) ⊎ (0xBF < x) → amongRanges (r ∷ []) x ≡ false
+outside : (r : Range) (x : ℕ) → 0x80 ≤ r .low → r .high ≤ 0xBF → (x < 0x80) ⊎ (0xBF < x) → among (r ∷ []) x ≡ false
 outside r x l h o = rw (range-outside r x l h o)
 
-among-second : (r s : Range) (x : ℕ) → r .high < x → s .low ≤ x → x ≤ s .high → amongRanges (r ∷ s ∷ []) x ≡ true
+among-second : (r s : Range) (x : ℕ) → r .high < x → s .low ≤ x → x ≤ s .high → among (r ∷ s ∷ []) x ≡ true
 among-second r s x o l h = rw (in-over r x o, in-yes s x l h)
 
 module _ (table : List ℕ) (rule : Ruled table) where
@@ -162,7 +162,7 @@ module _ (table : List ℕ) (rule : Ruled table) where
 
     by-none : (c : ℕ) → class x ≡ c → wantedBehind rowsOfClasses c ≡ none → wantedBehind rows x ≡ none → byClasses table x xs ≡ bytes x xs
     unfolding byClasses bytes
-    by-none c e p q = rw (e, p, q)
+    by-none c e p q = rw (alike-at anyLater next any-later x, e, p, q)
 
     at-ascii : x < 0x80 → byClasses table x xs ≡ bytes x xs
     unfolding classes rows rowsOfClasses
@@ -268,7 +268,7 @@ module _ (table : List ℕ) (rule : Ruled table) where
 
 abbrev firstWith : List (List Range) → ℕ → ℕ → ℕ
 firstWith [] c b = c
-firstWith (rs ∷ rss) c b = cond (amongRanges rs b) c (firstWith rss (suc c) b)
+firstWith (rs ∷ rss) c b = cond (among rs b) c (firstWith rss (suc c) b)
 
 abbrev entriesFrom : ℕ → ℕ → List ℕ
 entriesFrom zero b = []

@@ -12,7 +12,7 @@ use Rattle.theory.proofs.Cases.{under}
 use Rattle.theory.proofs.SequencesAreWhole.{Bounds, InRow, by-rows}
 use Rattle.terms.specs.Form.{isScalar}
 use Rattle.terms.proofs.FaithfulForms.{is-scalar, of-scalar, Faithful, Kept, Encoded, by-row, table-faithful}
-use Rattle.utf8.specs.Bytes.{next, rows, bytes}
+use Rattle.utf8.specs.Bytes.{next, rows, loneByte, bytes}
 use Rattle.utf8.specs.Scalar.{number, later, sequence, utf8}
 use Rattle.utf8.proofs.RowsOfBytes.{rows-sound}
 
@@ -47,22 +47,22 @@ low-bits : (n : ℕ) → later n % 0x40 ≡ n % 0x40
 low-bits n = omega arith
 
 module _ (c k : ℕ) where
-  by-one : (c < 0x80) × InRow rows k (c ∷ []) → Encoded utf8 rows c
-  by-one h = by-row utf8 rows c k (c ∷ []) (is-one c (h .0)) (omega arith) (h .1)
+  by-one : (c < 0x80) × InRow rows k (c ∷ []) → Encoded utf8 rows loneByte c
+  by-one h = by-row utf8 rows loneByte c k (c ∷ []) (is-one c (h .0)) (omega arith) (h .1)
 
-  by-two : (0x80 ≤ c) × (c < 0x800) × InRow rows k (two c) → Encoded utf8 rows c
-  by-two h = by-row utf8 rows c k (two c) (is-two c (h .0) (h .1)) (omega arith) (h .2)
+  by-two : (0x80 ≤ c) × (c < 0x800) × InRow rows k (two c) → Encoded utf8 rows loneByte c
+  by-two h = by-row utf8 rows loneByte c k (two c) (is-two c (h .0) (h .1)) (omega arith) (h .2)
 
-  by-three : (0x800 ≤ c) × (c < 0x10000) × InRow rows k (three c) → Encoded utf8 rows c
-  by-three h = by-row utf8 rows c k (three c) (is-three c (h .0) (h .1)) (omega arith) (h .2)
+  by-three : (0x800 ≤ c) × (c < 0x10000) × InRow rows k (three c) → Encoded utf8 rows loneByte c
+  by-three h = by-row utf8 rows loneByte c k (three c) (is-three c (h .0) (h .1)) (omega arith) (h .2)
 
-  by-four : (0x10000 ≤ c) × (c < 0x110000) × InRow rows k (four c) → Encoded utf8 rows c
+  by-four : (0x10000 ≤ c) × (c < 0x110000) × InRow rows k (four c) → Encoded utf8 rows loneByte c
   by-four h =
       let e : (0xF0 + c / 0x40000) % 0x08 ≡ c / 0x40000 = omega arith in
-      by-row utf8 rows c k (four c) (is-four c (h .0)) (rw (e, low-bits (c / 0x1000), low-bits (c / 0x40), low-bits c) (omega arith)) (h .2)
+      by-row utf8 rows loneByte c k (four c) (is-four c (h .0)) (rw (e, low-bits (c / 0x1000), low-bits (c / 0x40), low-bits c) (omega arith)) (h .2)
 
 -- the row of each scalar value
-encoded : (c : ℕ) → isScalar c ≡ true → Encoded utf8 rows c
+encoded : (c : ℕ) → isScalar c ≡ true → Encoded utf8 rows loneByte c
 unfolding rows
 encoded c s =
     under c 0x80 (λ h. by-one c 0 (omega arith)) (λ l.
@@ -127,4 +127,4 @@ kept = by-rows rows (Kept utf8)
 
 pub utf8-faithful : Faithful utf8
 unfolding bytes
-utf8-faithful = table-faithful utf8 rows refl rows-sound kept encoded
+utf8-faithful = table-faithful utf8 rows loneByte refl rows-sound kept encoded

@@ -8,6 +8,8 @@ pub mod ClassRule
 pub mod ClassesDivide
 -- A table with the rule reads what the well-formed byte sequences of table 3-7 say; and the table of the code has the rule
 pub mod ClassesRead
+-- A SEGMENT OF BYTES IS READ WITH EXACTLY ONE CAUSE, that of the paper's sentence
+pub mod CausesOfBytes
 -- Strict reading accepts exactly the well-formed texts of bytes within the limit
 pub mod AcceptsWellFormed
 -- The reader's loop over the bytes that a first byte wants: what it tells is what was passed and what the rest says

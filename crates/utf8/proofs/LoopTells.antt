@@ -9,18 +9,18 @@ use lib.Seq.{drop-cons}
 use native.Mathlib.Numerals.{add-one}
 use native.Mathlib.Omega.{arith}
 use Rattle.theory.specs.Reader.{Look}
-use Rattle.theory.specs.Table.{within, Kind, isDamage, want, wantedBehind}
+use Rattle.theory.specs.Table.{within, stopped, Kind, isDamage, causeOf, want, wantedBehind}
 use Rattle.terms.specs.Told.{toldFirst, bit, lookSays, firstSays}
 use Rattle.terms.specs.declared.First.the-variants.{Whole, Damage, Begun}
 use Rattle.terms.proofs.WalkBySegments.{says-look}
-use Rattle.utf8.specs.Classes.{classIn, rowsOfClasses, byClasses}
-use Rattle.utf8.specs.Inside.Lead.{wantedNext, laters, wanted}
+use Rattle.utf8.specs.Classes.{classIn, rowsOfClasses, loneClass, byClasses}
+use Rattle.utf8.specs.Inside.Lead.{wantedNext, laters, wanted, causeIn}
 use Rattle.utf8.specs.declared.classes.Lead.{Lead}
 use Rattle.utf8.specs.declared.classes.Lead.the-variants.{Alone, Begins}
 
 -- what a look tells of a segment n of whose bytes were passed before
 abbrev says : ℕ → Look Kind → List ℕ
-says n l = bit (isDamage (l .tag)) ∷ (n + l .more) ∷ bit (l .sure) ∷ []
+says n l = bit (isDamage (l .tag)) ∷ (n + l .more) ∷ bit (l .sure) ∷ causeOf (l .tag) ∷ []
 
 module _ (table text : List ℕ) where
   abbrev class : ℕ → ℕ
@@ -32,14 +32,17 @@ module _ (table text : List ℕ) where
 
   -- what the reader tells, from what its first byte begins
   module _ (some-there : 0 < length text) (r : Lead)
-      (b : wantedBehind rowsOfClasses (class (getD text 0 0)) ≡ wanted (class (getD text 0 0)) r) where
-    pub class-alone : r ≡ Alone → toldFirst (Damage 1) ≡ firstSays (byClasses table) text
+      (b : (wantedBehind rowsOfClasses (class (getD text 0 0)) ≡ wanted (class (getD text 0 0)) r)
+      × (loneClass (class (getD text 0 0)) ≡ causeIn (class (getD text 0 0)) r)) where
+    pub class-alone : (cause : ℕ) → r ≡ Alone cause → toldFirst (Damage 1 cause) ≡ firstSays (byClasses table) text
     unfolding byClasses
-    class-alone e = sym (says-look (byClasses table) text some-there ∙ rw (b, e))
+    class-alone cause e =
+        let d : loneClass (class (getD text 0 0)) ≡ cause = b .1 ∙ ap (causeIn (class (getD text 0 0))) e in
+        sym (says-look (byClasses table) text some-there ∙ rw (b .0, e, d))
 
     pub class-begun : (more : ℕ) → r ≡ Begins more → firstSays (byClasses table) text ≡ lookSays (left more (class (getD text 0 0)) 1)
     unfolding byClasses
-    class-begun more e = says-look (byClasses table) text some-there ∙ rw (b, e)
+    class-begun more e = says-look (byClasses table) text some-there ∙ rw (b .0, e)
 
   module _ (first more : ℕ) where
     -- the bytes before n are as wanted; the one at n is wanted behind a byte of class lead
@@ -51,7 +54,7 @@ module _ (table text : List ℕ) where
     follow-start =
         let l : Look Kind = left more first 1 in
         let e : suc more - 1 ≡ more = omega arith in
-        record { wanted = omega arith; same = rw e (ap (λ (k : ℕ). bit (isDamage (l .tag)) ∷ k ∷ bit (l .sure) ∷ []) (omega arith)) }
+        record { wanted = omega arith; same = rw e (ap (λ (k : ℕ). bit (isDamage (l .tag)) ∷ k ∷ bit (l .sure) ∷ causeOf (l .tag) ∷ []) (omega arith)) }
 
     module _ (lead n : ℕ) (f : Followed lead n) where
       -- all that was wanted is there
@@ -68,7 +71,7 @@ module _ (table text : List ℕ) where
 
         -- another byte stops it
         pub follow-stopped : n < length text → within (wantedNext lead) (class (getD text n 0)) ≡ false
-            → toldFirst (Damage n) ≡ lookSays (left more first 1)
+            → toldFirst (Damage n stopped) ≡ lookSays (left more first 1)
         follow-stopped k e = rw (same-here, drop-cons text n 0 k, e, add-zero)
 
         -- the byte is as wanted
@@ -81,5 +84,5 @@ module _ (table text : List ℕ) where
               same =
                   same-here
                   ∙ rw (drop-cons text n 0 k, b, e, add-one n)
-                  (ap (λ (i : ℕ). bit (isDamage (l .tag)) ∷ i ∷ bit (l .sure) ∷ []) (omega arith));
+                  (ap (λ (i : ℕ). bit (isDamage (l .tag)) ∷ i ∷ bit (l .sure) ∷ causeOf (l .tag) ∷ []) (omega arith));
             }

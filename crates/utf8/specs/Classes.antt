@@ -1,11 +1,11 @@
 -- The twelve classes of bytes, and the reader of byte texts by a table of classes.
 use Prim.Native.Nat.{ℕ}
-use mathlib.Core.Bool.{Bool, false, cond, _||_}
+use mathlib.Core.Bool.{Bool, cond}
 use mathlib.Core.List.{List, [], _∷_, map}
 use lib.ListN.{getD}
 use lib.Dec.{ltb}
 use Rattle.theory.specs.Reader.{Reader}
-use Rattle.theory.specs.Table.{Range, _to_, within, Row, Kind, read}
+use Rattle.theory.specs.Table.{Range, _to_, within, among, Row, stray, foreign, Kind, read}
 use Rattle.utf8.specs.Bytes.{row}
 
 -- THE RANGES OF EACH CLASS, from class 0 on
@@ -25,13 +25,9 @@ classes =
     ∷ (0xF4 to 0xF4 ∷ [])
     ∷ []
 
-abbrev pub amongRanges : List Range → ℕ → Bool
-amongRanges [] x = false
-amongRanges (r ∷ rs) x = within r x || amongRanges rs x
-
 -- a number lies in a class's ranges
 abbrev pub inClass : ℕ → ℕ → Bool
-inClass c x = amongRanges (getD classes c []) x
+inClass c x = among (getD classes c []) x
 
 -- how many there are, and what stands for none
 abbrev pub unclassed : ℕ
@@ -58,6 +54,10 @@ rowsOfClasses =
     ∷ row (11 to 11) (1 to 1 ∷ anyLater ∷ anyLater ∷ [])
     ∷ []
 
+-- the cause of a byte that begins no row, by its class
+abbrev pub loneClass : ℕ → ℕ
+loneClass c = cond (within anyLater c) stray foreign
+
 -- THE READER BY A TABLE OF CLASSES, whatever the table has
 unfoldable pub byClasses : List ℕ → Reader Kind
-byClasses table x xs = read rowsOfClasses (classIn table x) (map (classIn table) xs)
+byClasses table x xs = read rowsOfClasses loneClass (classIn table x) (map (classIn table) xs)

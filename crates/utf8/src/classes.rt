@@ -6,12 +6,12 @@ ghost use mathlib.Core.List.{map};
 ghost use lib.ListN.{drop};
 ghost use Rattle.theory.specs.Table.{within, want, wantedBehind};
 ghost use Rattle.terms.specs.Told.{toldFirst, lookSays, firstSays};
-ghost use Rattle.utf8.specs.Classes.{classIn, anyLater, rowsOfClasses, byClasses};
-ghost use Rattle.utf8.specs.Inside.Lead.{wantedNext, laters, wanted};
+ghost use Rattle.utf8.specs.Classes.{classIn, anyLater, rowsOfClasses, loneClass, byClasses};
+ghost use Rattle.utf8.specs.Inside.Lead.{wantedNext, laters, wanted, causeIn};
 
-// What a class tells of a first byte: no sequence begins with it; or one does, and wants so many bytes more.
+// What a class tells of a first byte: no sequence begins with it, and the cause of that; or one does, and wants so many bytes more.
 pub enum Lead {
-    Alone,
+    Alone(u32),
     Begins(usize),
 }
 
@@ -23,10 +23,13 @@ fn class_in(classes: &[u8; 256], b: u8) -> u8
 }
 
 fn lead_of(class: u8) -> Lead
-    ensures { λ r. ⌜ wantedBehind rowsOfClasses class ≡ wanted class r ⌝ }
+    ensures { λ r. ⌜ (wantedBehind rowsOfClasses class ≡ wanted class r) × (loneClass class ≡ causeIn class r) ⌝ }
 {
     match class {
         0 => Lead::Begins(0),
+        1 => Lead::Alone(First::STRAY),
+        2 => Lead::Alone(First::STRAY),
+        3 => Lead::Alone(First::STRAY),
         5 => Lead::Begins(1),
         6 => Lead::Begins(2),
         7 => Lead::Begins(2),
@@ -34,7 +37,7 @@ fn lead_of(class: u8) -> Lead
         9 => Lead::Begins(3),
         10 => Lead::Begins(3),
         11 => Lead::Begins(3),
-        _ => Lead::Alone,
+        _ => Lead::Alone(First::FOREIGN),
     }
 }
 
@@ -81,7 +84,7 @@ fn follow(text: &[u8], classes: &[u8; 256], class: u8, more: usize) -> First
             return First::Begun(n);
         }
         if !goes_on(lead, class_in(classes, text[n])) {
-            return First::Damage(n);
+            return First::Damage(n, First::STOPPED);
         }
         lead = 5;
         n += 1;
@@ -98,7 +101,7 @@ pub fn segment_by(text: &[u8], classes: &[u8; 256]) -> First
     }
     let class = class_in(classes, text[0]);
     match lead_of(class) {
-        Lead::Alone => First::Damage(1),
+        Lead::Alone(cause) => First::Damage(1, cause),
         Lead::Begins(more) => follow(text, classes, class, more),
     }
 }

@@ -72,7 +72,7 @@ pub fn point_by(text: &[u8], classes: &[u8; 256]) -> Point
             number: number_of(text, n),
             size: n,
         },
-        First::Damage(n) => Point {
+        First::Damage(n, _) => Point {
             number: 0xFFFD,
             size: n,
         },

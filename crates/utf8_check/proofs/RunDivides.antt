@@ -1,7 +1,7 @@
 -- A run of whole segments at the start of a byte text: the text divides into its segments and those of the rest, and they are settled.
 use mathlib.Core.Path.{_≡_, refl, sym, ap, _∙_, subst}
 use Prim.Native.Nat.{ℕ, suc, _+_, _-_, _≤_, _<_}
-use mathlib.Core.Bool.{true}
+use mathlib.Core.Bool.{true, true≢false}
 use mathlib.Core.List.{List, [], _∷_, _++_}
 use lib.ListN.{length, take, drop, length-append, length-drop, take-append-drop}
 use lib.Seq.{take-append-add, drop-append-add, take-append-seam, drop-append-seam, length-take-le}
@@ -12,7 +12,7 @@ use Rattle.theory.specs.Tally.{total, size, entries}
 use Rattle.theory.proofs.Cases.{All}
 use Rattle.theory.proofs.Divisions.{before, cut-nil, cut-cons, cut-size}
 use Rattle.theory.proofs.WholeRuns.{Undamaged, run-parts}
-use Rattle.terms.specs.Told.{toldFirst, sizeOf, firstSays}
+use Rattle.terms.specs.Told.{toldFirst, sizeOf, causeTold, firstSays}
 use Rattle.terms.specs.declared.First.{First}
 use Rattle.terms.specs.declared.First.the-variants.{Nothing, Whole, Damage, Begun}
 use Rattle.terms.proofs.WalkBySegments.{part-is, seen, Turn, turn-damage, turn-begun, turn-end, Clean}
@@ -29,7 +29,7 @@ pub record Run (text : List ℕ) (n : ℕ) : Type 0 where
 -- a text is empty, or begins with damage
 abbrev pub Stops : List ℕ → Type 0
 Stops [] = Unit {0}
-Stops (x ∷ xs) = bytes x xs .tag ≡ damage
+Stops (x ∷ xs) = isDamage (bytes x xs .tag) ≡ true
 
 -- the look at a whole segment
 abbrev pub wholeLook : ℕ → Look Kind
@@ -100,15 +100,13 @@ module _ (text : List ℕ) (n : ℕ) (r : Run text n) where
 
 -- what the segment reader tells behind the run, where there is text left: the first damage
 pub stop-turn : (text : List ℕ) (n : ℕ) → Stops (drop n text) → n < length text → (q : First)
-    → toldFirst q ≡ firstSays bytes (take (length text - n) (drop n text)) → Turn bytes text n (sizeOf q) damage
+    → toldFirst q ≡ firstSays bytes (take (length text - n) (drop n text)) → Turn bytes text n (sizeOf q) (damage (causeTold q))
 stop-turn text n s l Nothing told =
     let z : length (drop n text) ≡ 0 = ap length (turn-end bytes-division text n (omega arith) Nothing told refl) in
     absurd (omega (arith, length-drop n text))
 stop-turn text n s l (Whole k) told =
     let v = seen bytes (drop n text) k whole true (rw part-is at told) in
-    let t : bytes (v .head) (v .tail) .tag ≡ damage = subst Stops (v .text-is) s in
-    let b : _≡_ {A = Kind} whole damage = sym (v .kind-is) ∙ t in
-    let z : _≡_ {A = ℕ} 0 1 = cc in
-    absurd (omega arith)
-stop-turn text n s l (Damage k) told = turn-damage bytes-division text n (omega arith) (Damage k) told k refl
+    let t : isDamage (bytes (v .head) (v .tail) .tag) ≡ true = subst Stops (v .text-is) s in
+    absurd (true≢false (sym t ∙ ap isDamage (v .kind-is)))
+stop-turn text n s l (Damage k c) told = turn-damage bytes-division text n (omega arith) (Damage k c) told k c refl
 stop-turn text n s l (Begun k) told = turn-begun bytes-division text n (omega arith) (Begun k) told k refl

@@ -10,12 +10,12 @@ use lib.Seq.{drop-append-add}
 use lib.Dec.{leb, ltb, eqb}
 use native.Mathlib.Omega.{arith}
 use borrow.Author.Tests.{lt-ltb, le-ltb, le-leb, lt-leb, ltb-true, leb-true, eq-eqb, ne-eqb}
-use Rattle.theory.specs.Table.{Range, _to_, within, damage, longer, want, wantedBehind, lone}
+use Rattle.theory.specs.Table.{Range, _to_, within, isDamage, longer, want, wantedBehind, lone}
 use Rattle.theory.proofs.Cases.{split, under, both, by-ends}
 use Rattle.utf8_scan.specs.Stands.{isLater, lowOf, highOf, second, stands, standingFrom, standing, waiting, waitingAt}
 use Rattle.utf8_scan.proofs.OnwardByBytes.{before-is}
 use Rattle.utf8_scan.proofs.AskedByThree.{waits-one, waits-two, waits-three, waits-none, stands-first, stands-second, stands-third, stands-fourth}
-use Rattle.utf8.specs.Bytes.{row, next, rows, bytes}
+use Rattle.utf8.specs.Bytes.{row, next, rows, loneByte, bytes}
 use Rattle.utf8_check.specs.Run.{wholeRun}
 use Rattle.utf8.proofs.RowsOfBytes.{at-row, at-none}
 use Rattle.utf8_check.proofs.RunDivides.{Run, Stops, wholeLook, run-none, run-more, run-is}
@@ -116,11 +116,11 @@ module _ (x : ℕ) where
   unfolding bytes rows
   look-plain h xs = let b : wantedBehind rows x ≡ some [] = at-row 0 (row (0x00 to 0x7F) []) refl x (omega arith) in rw b
 
-  look-later : 0x80 ≤ x → x < 0xC2 → (xs : List ℕ) → bytes x xs ≡ lone
+  look-later : 0x80 ≤ x → x < 0xC2 → (xs : List ℕ) → bytes x xs ≡ lone (loneByte x)
   unfolding bytes rows
   look-later l h xs = let b : wantedBehind rows x ≡ none = at-none 1 refl x (omega arith) in rw b
 
-  look-past : 0xF5 ≤ x → (xs : List ℕ) → bytes x xs ≡ lone
+  look-past : 0xF5 ≤ x → (xs : List ℕ) → bytes x xs ≡ lone (loneByte x)
   unfolding bytes rows
   look-past l xs = let b : wantedBehind rows x ≡ none = at-none 9 refl x (omega arith) in rw b
 
@@ -129,7 +129,7 @@ module _ (x : ℕ) where
   look-wanted l h xs = rw (begun-wanted l h)
 
   -- the text ends behind it
-  look-ended : 0xC0 ≤ x → bytes x [] .tag ≡ damage
+  look-ended : 0xC0 ≤ x → isDamage (bytes x [] .tag) ≡ true
   look-ended g = under x 0xC2
       (λ h. rw (look-later (omega arith) h []))
       (λ l. under x 0xF5 (λ h. rw (look-wanted l h [])) (λ h. rw (look-past h [])))
@@ -146,7 +146,7 @@ module _ (x : ℕ) where
     within-is l h = rw (le-leb 0xC2 x l, lt-ltb x 0xF5 h, below-is y (highOf x) (high-some .0))
 
     -- it does not fit
-    look-stopped : 0xC0 ≤ x → second x y ≡ false → (ys : List ℕ) → bytes x (y ∷ ys) .tag ≡ damage
+    look-stopped : 0xC0 ≤ x → second x y ≡ false → (ys : List ℕ) → isDamage (bytes x (y ∷ ys) .tag) ≡ true
     look-stopped g s ys = under x 0xC2
         (λ h. rw (look-later (omega arith) h (y ∷ ys)))
         (λ l. under x 0xF5
@@ -171,10 +171,10 @@ module _ (x : ℕ) where
       look-two h ys = rw (look-second ys, others-two h)
 
       module _ (g : 0xE0 ≤ x) where
-        look-two-ended : bytes x (y ∷ []) .tag ≡ damage
+        look-two-ended : isDamage (bytes x (y ∷ []) .tag) ≡ true
         look-two-ended = under x 0xF0 (λ h. rw (look-second [], others-three g h)) (λ h. rw (look-second [], others-four h))
 
-        look-two-stopped : (z : ℕ) → isLater z ≡ false → (zs : List ℕ) → bytes x (y ∷ z ∷ zs) .tag ≡ damage
+        look-two-stopped : (z : ℕ) → isLater z ≡ false → (zs : List ℕ) → isDamage (bytes x (y ∷ z ∷ zs) .tag) ≡ true
         look-two-stopped z t zs = under x 0xF0
             (λ h. rw (look-second (z ∷ zs), others-three g h, next-is z, t))
             (λ h. rw (look-second (z ∷ zs), others-four h, next-is z, t))
@@ -184,10 +184,10 @@ module _ (x : ℕ) where
           look-three h zs = rw (look-second (z ∷ zs), others-three g h, next-is z, t)
 
           module _ (f : 0xF0 ≤ x) where
-            look-three-ended : bytes x (y ∷ z ∷ []) .tag ≡ damage
+            look-three-ended : isDamage (bytes x (y ∷ z ∷ []) .tag) ≡ true
             look-three-ended = rw (look-second (z ∷ []), others-four f, next-is z, t)
 
-            look-three-stopped : (u : ℕ) → isLater u ≡ false → (us : List ℕ) → bytes x (y ∷ z ∷ u ∷ us) .tag ≡ damage
+            look-three-stopped : (u : ℕ) → isLater u ≡ false → (us : List ℕ) → isDamage (bytes x (y ∷ z ∷ u ∷ us) .tag) ≡ true
             look-three-stopped u v us = rw (look-second (z ∷ u ∷ us), others-four f, next-is z, t, next-is u, v)
 
             look-four : (u : ℕ) → isLater u ≡ true → (us : List ℕ) → bytes x (y ∷ z ∷ u ∷ us) ≡ wholeLook 3

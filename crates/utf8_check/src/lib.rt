@@ -35,5 +35,5 @@ pub fn check(text: &[u8]) -> Checked
         return Checked::WellFormed;
     }
     let damage = utf8::segment(&text[start..]);
-    Checked::damaged(start, damage.size())
+    Checked::damaged(start, damage.size(), damage.cause())
 }

@@ -18,7 +18,7 @@ use Rattle.theory.proofs.SequencesAreWhole.{by-rows, whole-sequence, cut-sequen
 use Rattle.terms.specs.Form.{pointOf}
 use Rattle.terms.proofs.ConvertsBack.{AllWhole}
 use Rattle.utf8_scan.specs.Stands.{isLater}
-use Rattle.utf8.specs.Bytes.{rows, bytes}
+use Rattle.utf8.specs.Bytes.{rows, loneByte, bytes}
 use Rattle.utf8.specs.Scalar.{number, utf8}
 use Rattle.utf8.proofs.RowsOfBytes.{rows-sound, bytes-division}
 use Rattle.utf8_count.specs.Counts.{startOf, fourOf, endOf}
@@ -96,14 +96,14 @@ laters-none (y ∷ ys) a =
 module _ (x : ℕ) (xs : List ℕ) (w : bytes x xs .tag ≡ whole) where
   sequence : Sequence rows (x ∷ take (bytes x xs .more) xs)
   unfolding bytes
-  sequence = whole-sequence rows rows-sound x xs w
+  sequence = whole-sequence rows loneByte rows-sound x xs w
 
   pub formed-first : Formed (x ∷ take (bytes x xs .more) xs)
   formed-first = formed (x ∷ take (bytes x xs .more) xs) sequence
 
   pub cut-first : (ys : List ℕ) → cut bytes (x ∷ (take (bytes x xs .more) xs ++ ys)) ≡ record { head = x; tail = take (bytes x xs .more) xs; tag = whole } ∷ cut bytes ys
   unfolding bytes
-  cut-first ys = cut-sequence rows rows-sound x (take (bytes x xs .more) xs) ys sequence
+  cut-first ys = cut-sequence rows loneByte rows-sound x (take (bytes x xs .more) xs) ys sequence
 
 -- ---- THE COUNTS OF A TEXT OF WHOLE SEGMENTS
 

@@ -8,7 +8,7 @@ use lib.ListN.{length, take, drop}
 use native.Mathlib.Omega.{arith}
 use Rattle.theory.specs.Reader.{parts, pending}
 use Rattle.theory.specs.Reader as reader
-use Rattle.theory.specs.Table.{Kind, whole, damage}
+use Rattle.theory.specs.Table.{ended, Kind, whole, damage}
 use Rattle.theory.specs.Tally.{total, size}
 use Rattle.theory.proofs.Cases.{split}
 use Rattle.theory.proofs.Divisions.{before, first-size, parts-nil, parts-sure, parts-open, left-pending, pending-short}
@@ -114,8 +114,8 @@ pub told-size : (r : First) (text : List ℕ) → toldFirst r ≡ firstSays byte
 told-size Nothing [] e = rw settled-nil
 told-size Nothing (x ∷ xs) e = let z : _≡_ {A = ℕ} 0 1 = cc in absurd (omega arith)
 told-size (Whole n) text e = seen-size text n (seen bytes text n whole true e)
-told-size (Damage n) text e = seen-size text n (seen bytes text n damage true e)
+told-size (Damage n c) text e = seen-size text n (seen bytes text n (damage c) true e)
 told-size (Begun n) text e =
-    let s = seen bytes text n damage false e in
+    let s = seen bytes text n (damage ended) false e in
     let z : firstSettled text ≡ [] = rw (s .text-is) (settled-open (s .head) (s .tail) (s .sure-is)) in
     rw z

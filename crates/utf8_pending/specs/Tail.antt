@@ -22,7 +22,7 @@ firstSettled (x ∷ xs) = cond (bytes x xs .sure) (first bytes x xs ∷ []) []
 abbrev pub settledSize : First → ℕ
 settledSize Nothing = 0
 settledSize (Whole n) = n
-settledSize (Damage n) = n
+settledSize (Damage n cause) = n
 settledSize (Begun n) = 0
 
 -- THE TEST OF n PENDING BYTES: at most 3, empty or a proper beginning of a well-formed sequence, and unused ones 0

@@ -22,7 +22,7 @@ pub fn settled_size(seg: First) -> usize
     match seg {
         First::Nothing => 0,
         First::Whole(n) => n,
-        First::Damage(n) => n,
+        First::Damage(n, _) => n,
         First::Begun(_) => 0,
     }
 }

@@ -82,8 +82,8 @@ returns-3 c =
     let g = c .before .before in
     let l = g .before .before in
     let text = l .before .before .before .args .text .now in
-    check-damage text (l .loop .at) (l .loop .inv) noScalar (0 ∷ []) (l .before .if1 .left) _
-    (turn-damage points-division text (l .loop .at) (l .loop .inv .inside) _ (g .segment .ensures) _ (c .enum-told2 .given .1))
+    check-damage text (l .loop .at) (l .loop .inv) noScalar (0 ∷ []) (l .before .if1 .left) _ _
+    (turn-damage points-division text (l .loop .at) (l .loop .inv .inside) _ (g .segment .ensures) _ _ (c .enum-told2 .given .1))
 
 enum-told-3 : tie.Need-enum-told-3 Inv-loop μ-loop
 enum-told-3 c = search needs
@@ -93,7 +93,7 @@ returns-4 c =
     let g = c .before .before in
     let l = g .before .before in
     let text = l .before .before .before .args .text .now in
-    check-damage text (l .loop .at) (l .loop .inv) noScalar (0 ∷ []) (l .before .if1 .left) _
+    check-damage text (l .loop .at) (l .loop .inv) noScalar (0 ∷ []) (l .before .if1 .left) _ _
     (turn-begun points-division text (l .loop .at) (l .loop .inv .inside) _ (g .segment .ensures) _ (c .enum-told3 .given .1))
 
 pub check-spec : {M : Type 1} → statement M

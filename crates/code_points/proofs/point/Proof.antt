@@ -45,7 +45,7 @@ returns-2 c = let p = pointed (c .before) in says-of p 1 (p .seen-as .long-is)
 returns-3 : tie.Need-returns-3
 returns-3 c =
     let g = c .before .before .before in
-    point-damage codePoints points-division (g .before .before .args .text .now) _ (g .segment .ensures) _ (c .before .n2 .given .1)
+    point-damage codePoints points-division (g .before .before .args .text .now) _ (g .segment .ensures) _ _ (c .before .n2 .given .1)
 
 returns-4 : tie.Need-returns-4
 returns-4 c =

@@ -84,7 +84,7 @@ returns-3 c =
 returns-4 : tie.Need-returns-4
 returns-4 c =
     let g = c .before .before .before in
-    point-damage utf16 units-division (g .before .before .args .text .now) _ (g .segment .ensures) _ (c .before .n2 .given .1)
+    point-damage utf16 units-division (g .before .before .args .text .now) _ (g .segment .ensures) _ _ (c .before .n2 .given .1)
 
 returns-5 : tie.Need-returns-5
 returns-5 c =

@@ -135,8 +135,8 @@ returns-3 c =
     let l = j .before in
     let text = l .before .before .before .args .text .now in
     c .damaged .ensures
-    ∙ check-damage text (j .if2 .at) (here j) damaged (0 ∷ []) (l .before .if1 .left) _
-    (turn-damage units-division text (j .if2 .at) (here j .inside) _ (g .segment .ensures) _ (c .before .before .n2 .given .1))
+    ∙ check-damage text (j .if2 .at) (here j) damaged (0 ∷ []) (l .before .if1 .left) _ _
+    (turn-damage units-division text (j .if2 .at) (here j .inside) _ (g .segment .ensures) _ _ (c .before .before .n2 .given .1))
 
 enum-known-n-3 : tie.Need-enum-known-n-3 Inv-loop μ-loop
 enum-known-n-3 c = search needs
@@ -151,7 +151,7 @@ returns-4 c =
     let l = j .before in
     let text = l .before .before .before .args .text .now in
     c .damaged2 .ensures
-    ∙ check-damage text (j .if2 .at) (here j) damaged (0 ∷ []) (l .before .if1 .left) _
+    ∙ check-damage text (j .if2 .at) (here j) damaged (0 ∷ []) (l .before .if1 .left) _ _
     (turn-begun units-division text (j .if2 .at) (here j .inside) _ (g .segment .ensures) _ (c .before .before .n3 .given .1))
 
 pub check-spec : {M : Type 1} → statement M

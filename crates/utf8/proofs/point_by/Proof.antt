@@ -48,7 +48,7 @@ returns-2 c = rw (c .number-of .ensures) (pointed (c .before) .says)
 returns-3 : tie.Need-returns-3
 returns-3 c =
     let g = c .before .before .before in
-    point-damage (utf8By (g .before .before .args .classes .now)) (classes-division (g .before .before .args .classes .now)) (g .before .before .args .text .now) _ (g .segment-by .ensures) _ (c .before .n2 .given .1)
+    point-damage (utf8By (g .before .before .args .classes .now)) (classes-division (g .before .before .args .classes .now)) (g .before .before .args .text .now) _ (g .segment-by .ensures) _ _ (c .before .n2 .given .1)
 
 returns-4 : tie.Need-returns-4
 returns-4 c =

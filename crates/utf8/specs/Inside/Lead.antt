@@ -5,7 +5,7 @@ use mathlib.Core.List.{List, [], _∷_}
 use mathlib.Core.Option.{Option, none, some}
 use lib.Dec.{eqb}
 use Rattle.theory.specs.Table.{Range, _to_}
-use Rattle.utf8.specs.Classes.{anyLater}
+use Rattle.utf8.specs.Classes.{anyLater, loneClass}
 use Rattle.utf8.specs.declared.classes.Lead.{Lead}
 use Rattle.utf8.specs.declared.classes.Lead.the-variants.{Alone, Begins}
 
@@ -19,5 +19,10 @@ laters zero lead = []
 laters (suc k) lead = wantedNext lead ∷ laters k 5
 
 abbrev pub wanted : ℕ → Lead → Option (List Range)
-wanted class Alone = none
+wanted class (Alone cause) = none
 wanted class (Begins more) = some (laters more class)
+
+-- the cause that it tells of a byte which begins none; of another nobody asks
+abbrev pub causeIn : ℕ → Lead → ℕ
+causeIn class (Alone cause) = cause
+causeIn class (Begins more) = loneClass class

@@ -45,18 +45,22 @@ segment-requires c κs = search needs
 size-requires : tie.Need-size-requires
 size-requires c κs = search needs
 
+cause-requires : tie.Need-cause-requires
+cause-requires c κs = search needs
+
 damaged-requires : tie.Need-damaged-requires
 damaged-requires c κs = search needs
 
 returns-3 : tie.Need-returns-3
 returns-3 c =
-    let g = c .before .before in
+    let s = c .before .before in
+    let g = s .before in
     let w = g .before .before .before in
     let n = w .whole-run .result in
     let text = w .before .before .before .args .text .now in
     c .damaged .ensures
-    ∙ rw (c .before .size .ensures)
-    (check-damage text n (clean w) damaged (0 ∷ []) (w .before .if1 .left) _
+    ∙ rw (s .size .ensures, c .before .cause .ensures)
+    (check-damage text n (clean w) damaged (0 ∷ []) (w .before .if1 .left) _ _
     (stop-turn text n (stops-at text n (w .whole-run .ensures)) (omega (arith, clean w .inside, g .before .before .if2 .left)) (g .segment .result) (g .segment .ensures)))
 
 pub check-spec : {M : Type 1} → statement M
@@ -71,5 +75,6 @@ check-spec =
     part-segment-end
     segment-requires
     size-requires
+    cause-requires
     damaged-requires
     returns-3)

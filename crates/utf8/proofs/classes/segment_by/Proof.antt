@@ -20,8 +20,8 @@ class-in-requires c κs = search needs
 lead-of-requires : tie.Need-lead-of-requires
 lead-of-requires c κs = search needs
 
-enum-told : tie.Need-enum-told
-enum-told c = search needs
+enum-known-cause : tie.Need-enum-known-cause
+enum-known-cause c = search needs
 
 enum-known-more : tie.Need-enum-known-more
 enum-known-more c = search needs
@@ -31,9 +31,10 @@ follow-requires c κs = search needs
 
 returns-2 : tie.Need-returns-2
 returns-2 c =
-    let l = c .before .before in
+    let m = c .before in
+    let l = m .before .before in
     let a = l .before .before .before .before .before .args in
-    class-alone (a .classes .now) (a .text .now) (omega arith) (l .lead-of .result) (rw (l .before .class-in .ensures) at (l .lead-of .ensures)) (c .enum-told .given .1)
+    class-alone (a .classes .now) (a .text .now) (omega arith) (l .lead-of .result) (rw (l .before .class-in .ensures) at (l .lead-of .ensures)) _ (m .cause .given .1)
 
 returns-3 : tie.Need-returns-3
 returns-3 c =
@@ -51,7 +52,7 @@ segment-by-spec =
     shared-slice-read-class-in
     class-in-requires
     lead-of-requires
-    enum-told
+    enum-known-cause
     enum-known-more
     follow-requires
     returns-2
