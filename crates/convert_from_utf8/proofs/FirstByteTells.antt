@@ -14,7 +14,7 @@ use Rattle.terms.specs.Form.{pointSays}
 use Rattle.terms.specs.Strict.{damages}
 use Rattle.terms.proofs.ConvertsBack.{AllWhole, none-whole}
 use Rattle.terms.proofs.PointTold.{elements, value-of}
-use Rattle.utf8.specs.Bytes.{rows, bytes}
+use Rattle.utf8.specs.Bytes.{rows, loneByte, bytes}
 use Rattle.utf8.specs.Scalar.{number, utf8}
 use Rattle.utf8.proofs.RowsOfBytes.{rows-sound, bytes-division}
 use Rattle.convert_from_utf8.specs.Inside.Spell.{wants}
@@ -42,7 +42,7 @@ wanted = by-rows rows Wanted
 whole-wants : (x : ℕ) (xs : List ℕ) → bytes x xs .tag ≡ whole → wants x ≡ bytes x xs .more
 unfolding bytes
 whole-wants x xs w =
-    wanted (x ∷ take (bytes x xs .more) xs) (whole-sequence rows rows-sound x xs w)
+    wanted (x ∷ take (bytes x xs .more) xs) (whole-sequence rows loneByte rows-sound x xs w)
     ∙ length-take-le (bytes x xs .more) xs (bytes-division .fits x xs)
 
 -- so many bytes are there, and the code point is theirs

@@ -12,7 +12,7 @@ use Rattle.theory.proofs.SequencesAreWhole.{Bounds, by-rows, whole-sequence}
 use Rattle.terms.specs.Form.{converted}
 use Rattle.terms.specs.Strict.{damages}
 use Rattle.terms.proofs.ConvertsBack.{AllWhole, none-whole}
-use Rattle.utf8.specs.Bytes.{next, rows, bytes}
+use Rattle.utf8.specs.Bytes.{next, rows, loneByte, bytes}
 use Rattle.utf8.specs.Scalar.{number, utf8}
 use Rattle.utf8.proofs.RowsOfBytes.{rows-sound}
 use Rattle.utf16.specs.Scalar.{pair, utf16}
@@ -69,7 +69,7 @@ spells = by-rows rows Spells
 
 whole-spells : (x : ℕ) (xs : List ℕ) → bytes x xs .tag ≡ whole → Spells (x ∷ take (bytes x xs .more) xs)
 unfolding bytes
-whole-spells x xs w = spells (x ∷ take (bytes x xs .more) xs) (whole-sequence rows rows-sound x xs w)
+whole-spells x xs w = spells (x ∷ take (bytes x xs .more) xs) (whole-sequence rows loneByte rows-sound x xs w)
 
 pub spelled-whole : (xs : List ℕ) → AllWhole (cut bytes xs) → spelled xs ≡ converted utf8 utf16 xs
 spelled-whole = by-segments bytes (λ (xs : List ℕ). AllWhole (cut bytes xs) → spelled xs ≡ converted utf8 utf16 xs)

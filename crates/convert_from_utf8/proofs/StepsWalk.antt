@@ -14,7 +14,7 @@ use Rattle.terms.specs.Strict.{damages}
 use Rattle.terms.proofs.ConvertsBack.{AllWhole, none-whole, whole-none}
 use Rattle.terms.proofs.WalkBySegments.{part-is}
 use Rattle.terms.proofs.WalkWrites.{met}
-use Rattle.utf8.specs.Bytes.{rows, bytes}
+use Rattle.utf8.specs.Bytes.{rows, loneByte, bytes}
 use Rattle.utf8.specs.Scalar.{utf8}
 use Rattle.utf8.proofs.RowsOfBytes.{rows-sound}
 use Rattle.utf8.proofs.FaithfulForm.{utf8-faithful}
@@ -28,7 +28,7 @@ use Rattle.convert_from_utf8.specs.Inside.Step.{Steps}
 
 ascii-cut : (x : ℕ) (xs : List ℕ) → x < 0x80 → cut bytes (x ∷ xs) ≡ record { head = x; tail = []; tag = whole } ∷ cut bytes xs
 unfolding bytes rows
-ascii-cut x xs h = cut-sequence rows rows-sound x [] xs (of-row rows 0 (x ∷ []) (omega arith))
+ascii-cut x xs h = cut-sequence rows loneByte rows-sound x [] xs (of-row rows 0 (x ∷ []) (omega arith))
 
 ascii-points : (text : List ℕ) (n : ℕ) → n ≤ length text → Ascii text n
     → converted utf8 codePoints text ≡ take n text ++ converted utf8 codePoints (drop n text)

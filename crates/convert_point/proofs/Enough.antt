@@ -22,7 +22,7 @@ use Rattle.utf8.specs.Bytes as bytes-rows
 use Rattle.utf8.specs.Scalar.{sequence}
 use Rattle.utf8.specs.Scalar as utf8
 use Rattle.utf8.proofs.FaithfulForm.{is-one, is-two, is-three, utf8-faithful}
-use Rattle.utf16.specs.Units.{rows, units}
+use Rattle.utf16.specs.Units.{rows, loneUnit, units}
 use Rattle.utf16.specs.Scalar.{number, pair}
 use Rattle.utf16.proofs.RowsOfUnits.{rows-sound}
 use Rattle.utf16.proofs.FaithfulForm.{utf16-faithful}
@@ -103,7 +103,7 @@ module _ (x : ℕ) (xs : List ℕ) where
   whole-few Bytes Bytes e = omega (arith, same-few Bytes e)
   whole-few Bytes Units e = omega (arith, units-of x (take (formOf Bytes .look x xs .more) xs))
   whole-few Bytes Points e = omega arith
-  whole-few Units Bytes e = bytes-of (body (first units x xs)) (whole-sequence rows rows-sound x xs e)
+  whole-few Units Bytes e = bytes-of (body (first units x xs)) (whole-sequence rows loneUnit rows-sound x xs e)
   whole-few Units Units e = omega (arith, same-few Units e)
   whole-few Units Points e = omega arith
   whole-few Points Bytes e = omega (arith, at-most-four Bytes (formOf Points .value (body (first (formOf Points .look) x xs))))
@@ -116,7 +116,7 @@ module _ (x : ℕ) (xs : List ℕ) where
     where
       go : (k : Kind) → formOf from .look x xs .tag ≡ k
           → length (formOf to .write (pointOf (formOf from) (first (formOf from .look) x xs))) ≤ placesEach from to * size (first (formOf from .look) x xs)
-      go damage e = rw e (damage-few from to (length (take (formOf from .look x xs .more) xs)))
+      go (damage c) e = rw e (damage-few from to (length (take (formOf from .look x xs .more) xs)))
       go whole e = rw e (whole-few from to e)
 
 pub text-few : (from to : Target) (text : List ℕ) → length (converted (formOf from) (formOf to) text) ≤ placesEach from to * length text

@@ -14,7 +14,7 @@ use Rattle.theory.proofs.Cases.{All}
 use Rattle.theory.proofs.Divisions.{total-append}
 use Rattle.theory.proofs.SequencesAreWhole.{by-rows}
 use Rattle.theory.proofs.PlacesFound.{PlaceOf}
-use Rattle.utf8.specs.Bytes.{rows, bytes}
+use Rattle.utf8.specs.Bytes.{rows, loneByte, bytes}
 use Rattle.utf8.proofs.RowsOfBytes.{bytes-read}
 use Rattle.place.proofs.ReaderDivides.{reader-division}
 use Rattle.place.specs.Measures.{ruler}
@@ -55,11 +55,11 @@ high-front (x ∷ xs) ys h = (h .0, high-front xs ys (h .1))
 segment-high : (x : ℕ) (xs : List ℕ) → HighTail (body (first bytes x xs))
 segment-high x xs = of-kind (bytes x xs .tag) (bytes x xs .more) (bytes-read .stands x xs)
   where
-    of-kind : (t : Kind) (more : ℕ) → Stands rows (x ∷ xs) (suc more) t → High (take more xs)
+    of-kind : (t : Kind) (more : ℕ) → Stands rows (x ∷ xs) loneByte (suc more) t → High (take more xs)
     of-kind whole more s = high-tail (x ∷ take more xs) (s .sequence)
-    of-kind damage more s = ⊎-elim
-        (λ l. high-front (take more xs) (l .begun .others) (high-tail _ (l .begun .sequence)))
-        (λ o. let z : more ≡ zero = omega (arith, o .0) in rw z tt)
+    of-kind (damage c) more s = ⊎-elim
+        (λ l. high-front (take more xs) (l .0 .begun .others) (high-tail _ (l .0 .begun .sequence)))
+        (λ o. let z : more ≡ zero = omega (arith, o .one) in rw z tt)
         (s .part)
 
 -- ---- so that a segment has a byte 0x0A only if it begins with it

@@ -21,7 +21,7 @@ use Rattle.theory.proofs.SequencesAreWhole.{by-rows, whole-sequence}
 use Rattle.theory.proofs.PlacesFound.{NeverFalls, Rises, Measured, bytes-foldl, PlaceOf}
 use Rattle.terms.specs.Limits.{mostDamaged}
 use Rattle.terms.specs.Form.{pointOf}
-use Rattle.utf8.specs.Bytes.{rows, bytes}
+use Rattle.utf8.specs.Bytes.{rows, loneByte, bytes}
 use Rattle.utf8.specs.Scalar.{number, utf8}
 use Rattle.utf8.proofs.RowsOfBytes.{damage-short, rows-sound}
 use Rattle.place.proofs.ReaderDivides.{reader-division}
@@ -96,7 +96,7 @@ by-length = by-rows rows ByLength
 
 whole-by-length : (x : ℕ) (xs : List ℕ) → bytes x xs .tag ≡ whole → ByLength (body (first bytes x xs))
 unfolding bytes
-whole-by-length x xs e = by-length (body (first bytes x xs)) (whole-sequence rows rows-sound x xs e)
+whole-by-length x xs e = by-length (body (first bytes x xs)) (whole-sequence rows loneByte rows-sound x xs e)
 
 -- TWO UNITS EXACTLY IF FOUR BYTES: a whole segment by its number, and damage is shorter
 pub units-by-size : (x : ℕ) (xs : List ℕ) → unitsOf (first bytes x xs) ≡ unitsBySize (size (first bytes x xs))
@@ -111,7 +111,7 @@ units-by-size x xs = of-tag (bytes x xs .tag) refl
 
     of-tag : (t : Kind) → bytes x xs .tag ≡ t → unitsOf s ≡ unitsBySize (size s)
     of-tag whole e = rw e (by-number (number (body s)) (size s) (whole-by-length x xs e))
-    of-tag damage e =
+    of-tag (damage c) e =
         let short : size s ≤ mostDamaged = omega (arith, damage-short x xs (rw e), first-size reader-division x xs) in
         rw (e, ne-eqb (size s) 4 (omega arith))
 

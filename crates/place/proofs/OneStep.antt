@@ -28,7 +28,7 @@ stepped-end look p (x ∷ xs) h = absurd (omega arith)
 told-size : (r : First) (l : Look Kind) → told.toldFirst r ≡ told.lookSays l → told.sizeOf r ≡ suc (l .more)
 told-size Nothing l e = let z : _≡_ {A = ℕ} 0 1 = cc in absurd (omega arith)
 told-size (Whole n) l e = cc
-told-size (Damage n) l e = cc
+told-size (Damage n c) l e = cc
 told-size (Begun n) l e = cc
 
 pub added : (look : Reader Kind) → Division look → (p : Place) (rest : List ℕ) → 0 < length rest → (r : First)

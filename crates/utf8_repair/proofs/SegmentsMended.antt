@@ -38,7 +38,7 @@ standing text Nothing some told = absurd (omega (arith, ap length (nothing-seen 
 standing text (Whole n) some told =
     let p = point-whole utf8 bytes-division text (Whole n) told n refl in
     record { point = number (take n text); says = p .says; places = rw (again text n p) (length-take-le n text (p .inside)) }
-standing text (Damage n) some told = record { point = replacement; says = point-damage utf8 bytes-division text (Damage n) told n refl; places = refl }
+standing text (Damage n c) some told = record { point = replacement; says = point-damage utf8 bytes-division text (Damage n c) told n c refl; places = refl }
 standing text (Begun n) some told = record { point = replacement; says = point-begun utf8 bytes-division text (Begun n) told n refl; places = refl }
 
 -- ---- and as it is written

@@ -27,7 +27,7 @@ fn places(seg: First) -> usize
     match seg {
         First::Nothing => 0,
         First::Whole(n) => n,
-        First::Damage(_) => 3,
+        First::Damage(_, _) => 3,
         First::Begun(_) => 3,
     }
 }
@@ -75,7 +75,7 @@ fn mend(text: &[u8], classes: &[u8; 256], out: &mut [u8]) -> Mended
     match utf8::segment_by(text, classes) {
         First::Nothing => Mended { passed: 0, put: 0 },
         First::Whole(n) => pass(&text[..n], out),
-        First::Damage(n) => mark(n, out),
+        First::Damage(n, _) => mark(n, out),
         First::Begun(n) => mark(n, out),
     }
 }

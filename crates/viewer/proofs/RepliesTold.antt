@@ -7,7 +7,7 @@ use lib.ListN.{length, getD}
 use lib.Dec.{ltb}
 use borrow.Author.Tests.{ne-eqb}
 use native.Mathlib.Omega.{arith}
-use Rattle.theory.specs.Table.{Kind}
+use Rattle.theory.specs.Table.{Kind, causeOf}
 use Rattle.theory.specs.Tally.{Entry}
 use Rattle.theory.proofs.Cases.{split}
 use Rattle.terms.specs.Limits.{limit}
@@ -42,7 +42,7 @@ small-says text = split (ltb limit (length text)) (λ t. rw t (omega arith)) (λ
     go : (ds : List (Entry Kind)) → damages bytes text ≡ ds → ltb limit (length text) ≡ false → SmallNumbers (checkSays bytes text)
     go [] e t = rw (t, e) (omega arith)
     go (d ∷ ds) e t =
-        let w = damage-within bytes text (d .start) (d .long) (rw (t, e)) in
+        let w = damage-within bytes text (d .start) (d .long) (causeOf (d .tag)) (rw (t, e)) in
         rw (t, e) (omega arith)
 
 pub small : (text : List ℕ) (r : Refusal) → toldRefusal r ≡ checkSays bytes text → Small r

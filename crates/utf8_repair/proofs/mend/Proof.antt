@@ -53,7 +53,7 @@ enum-known-n-2 c = search needs
 damaged : (c : tie.After-known-told2) → replacement ∷ c .before .n2 .given .0 .0 ∷ [] ≡ pointSays utf8 (c .before .before .before .before .before .before .args .text .now)
 damaged c =
     let g = c .before .before .before in
-    point-damage utf8 bytes-division (g .before .before .before .args .text .now) _ (told g) _ (c .before .n2 .given .1)
+    point-damage utf8 bytes-division (g .before .before .before .args .text .now) _ (told g) _ _ (c .before .n2 .given .1)
 
 mark-requires : tie.Need-mark-requires
 mark-requires c κs =

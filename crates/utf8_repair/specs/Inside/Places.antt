@@ -10,5 +10,5 @@ use Rattle.utf8.specs.Scalar.{sequence}
 abbrev pub placesOf : First → ℕ
 placesOf Nothing = 0
 placesOf (Whole n) = n
-placesOf (Damage n) = length (sequence replacement)
+placesOf (Damage n cause) = length (sequence replacement)
 placesOf (Begun n) = length (sequence replacement)
