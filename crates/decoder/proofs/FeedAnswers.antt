@@ -19,9 +19,10 @@ use Rattle.terms.specs.declared.Refusal.the-variants.{NoRoom}
 use Rattle.terms.specs.declared.Written.the-variants.{Count, Refused}
 use Rattle.utf8.specs.Bytes.{bytes}
 use Rattle.utf8_pending.specs.Tail.{firstSettled, settledSize}
+use Rattle.decoder_shared.specs.Inside.Steps.{toldOf}
 use Rattle.decoder_shared.proofs.FeedAnswers as any
 use Rattle.decoder.specs.State.{byteDecoding, opened, fed}
-use Rattle.decoder.specs.Inside.Acting.{need, places, toldOf, Stands, Work, work, reached, Fits, Ready, acted}
+use Rattle.decoder.specs.Inside.Acting.{need, places, Stands, Work, work, reached, Fits, Ready, acted}
 use Rattle.decoder.specs.Inside.Steps.{tallyOf, keeping, Rests, behind, Answers}
 use Rattle.decoder.proofs.SettledPlaces.{need-append, need-small}
 use Rattle.decoder.proofs.SettledByReader.{Told, told, stands}

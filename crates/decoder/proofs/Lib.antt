@@ -4,7 +4,7 @@ pub mod SegmentsAct
 pub mod FeedAnswers
 -- A piece behind what is pending
 pub mod SeamSettled
--- What finish answers: pending bytes are one damage, for which U+FFFD is written
+-- What finish answers: pending bytes are one damage that the end of the text stops, for which U+FFFD is written
 pub mod FinishAnswers
 -- The decoder of bytes is lawful: so the cutting of a text does not matter, and the state always passes its tests
 pub mod BytesLawful

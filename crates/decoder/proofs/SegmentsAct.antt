@@ -17,8 +17,9 @@ use Rattle.terms.proofs.WalkBySegments.{part-is}
 use Rattle.terms.proofs.WalkWrites.{lent, back, back-is}
 use Rattle.utf8.specs.Scalar.{utf8}
 use Rattle.decoder_shared.specs.Decoding.{numbers}
+use Rattle.decoder_shared.specs.Inside.Steps.{segmentOf}
 use Rattle.decoder.specs.State.{act}
-use Rattle.decoder.specs.Inside.Acting.{need, segmentOf, Work, work, logOf, reached, Ready, acted, passed, mended}
+use Rattle.decoder.specs.Inside.Acting.{need, Work, work, logOf, reached, Ready, acted, passed, mended}
 use Rattle.decoder.specs.declared.tally.Tally.{Tally}
 use Rattle.decoder.proofs.SettledPlaces.{need-append}
 
@@ -94,10 +95,10 @@ module _ (room : ℕ) where
   passed-acts [] l = simp (add-zero, append-nil)
   passed-acts (x ∷ xs) l = simp add-zero
 
-  pub mended-acts : (n : ℕ) (run : List ℕ) → n ≡ total size (segmentOf damage run) → 3 ≡ need (segmentOf damage run) → (l : Log)
-      → mended room n l ≡ foldl (act room) l (segmentOf damage run)
-  mended-acts n [] e k l = absurd (omega arith)
-  mended-acts n (x ∷ xs) e k l = rw e (simp add-zero)
+  pub mended-acts : (n c : ℕ) (run : List ℕ) → n ≡ total size (segmentOf (damage c) run) → 3 ≡ need (segmentOf (damage c) run) → (l : Log)
+      → mended room n c l ≡ foldl (act room) l (segmentOf (damage c) run)
+  mended-acts n c [] e k l = absurd (omega arith)
+  mended-acts n c (x ∷ xs) e k l = rw e (simp add-zero)
 
 -- no bytes do nothing
 pub passed-none : (run : List ℕ) → length run ≡ 0 → (w : Work) → w .tally .written ≤ length (w .out) → w ≡ reached (w .out) (passed run (logOf w))

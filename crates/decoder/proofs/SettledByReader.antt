@@ -1,7 +1,7 @@
 -- What the reader told of a text is the settled segment that stands first in it, with its bytes and its places.
 use mathlib.Core.Path.{_≡_, refl, sym, ap, _∙_}
 use Prim.Native.Nat.{ℕ, _≤_}
-use mathlib.Core.Bool.{true, false}
+use mathlib.Core.Bool.{true}
 use mathlib.Core.List.{List, [], _∷_, append-nil}
 use lib.ListN.{length, take, drop, length-append, take-append-drop}
 use native.Mathlib.Nat.{add-zero}
@@ -14,28 +14,24 @@ use Rattle.terms.specs.declared.First.the-variants.{Nothing, Whole, Damage, Beg
 use Rattle.terms.proofs.WalkBySegments.{Seen, seen}
 use Rattle.utf8.specs.Bytes.{bytes}
 use Rattle.utf8_pending.specs.Tail.{firstSettled, settledSize}
-use Rattle.utf8_pending.proofs.SettledFirst.{settled-sure, settled-open, settled-nil, told-size}
-use Rattle.decoder.specs.Inside.Acting.{need, places, segmentOf, toldOf, Stands}
+use Rattle.utf8_pending.proofs.SettledFirst.{told-size}
+use Rattle.decoder_shared.specs.Inside.Steps.{segmentOf, toldOf}
+use Rattle.decoder_shared.proofs.TalliedWalk.{firstOf, segment-told}
+use Rattle.decoder.specs.Inside.Acting.{need, places, Stands}
 
 pub record Told (r : First) (text : List ℕ) : Type 0 where
   pub settled-is : toldOf r text ≡ firstSettled text
   pub size-is : settledSize r ≡ total size (firstSettled text)
   pub places-is : places r ≡ need (firstSettled text)
 
--- the segment that was seen is settled
-one : {text : List ℕ} {n : ℕ} {kind : Kind} (s : Seen bytes text n kind true) → segmentOf kind (take n text) ≡ firstSettled text
-one s = rw (s .text-is, s .long-is, settled-sure (s .head) (s .tail) (s .sure-is), s .kind-is)
+-- the settled segment of pending bytes and a piece is that of the tally
+pub first-is : (text : List ℕ) → firstSettled text ≡ firstOf bytes text
+unfolding firstSettled
+first-is [] = refl
+first-is (x ∷ xs) = refl
 
--- nothing is
-none : (text : List ℕ) {n : ℕ} → Seen bytes text n damage false → firstSettled text ≡ []
-none text s = rw (s .text-is) (settled-open (s .head) (s .tail) (s .sure-is))
-
-settled-is : (r : First) (text : List ℕ) → toldFirst r ≡ firstSays bytes text → toldOf r text ≡ firstSettled text
-settled-is Nothing [] e = sym settled-nil
-settled-is Nothing (x ∷ xs) e = let z : _≡_ {A = ℕ} 0 1 = cc in absurd (omega arith)
-settled-is (Whole n) text e = one (seen bytes text n whole true e)
-settled-is (Damage n) text e = one (seen bytes text n damage true e)
-settled-is (Begun n) text e = sym (none text (seen bytes text n damage false e))
+pub settled-is : (r : First) (text : List ℕ) → toldFirst r ≡ firstSays bytes text → toldOf r text ≡ firstSettled text
+settled-is r text e = segment-told bytes r text e ∙ sym (first-is text)
 
 -- so many bytes as there are, and their places
 segment-size : (kind : Kind) (run : List ℕ) → total size (segmentOf kind run) ≡ length run
@@ -46,13 +42,13 @@ whole-need : (run : List ℕ) → need (segmentOf whole run) ≡ length run
 whole-need [] = refl
 whole-need (x ∷ xs) = ap length (append-nil (x ∷ xs))
 
-damage-need : (n : ℕ) (text : List ℕ) → Seen bytes text n damage true → 3 ≡ need (segmentOf damage (take n text))
-damage-need n text s = rw (s .text-is, s .long-is)
+damage-need : (n c : ℕ) (text : List ℕ) → Seen bytes text n (damage c) true → 3 ≡ need (segmentOf (damage c) (take n text))
+damage-need n c text s = rw (s .text-is, s .long-is)
 
 places-are : (r : First) (text : List ℕ) → toldFirst r ≡ firstSays bytes text → settledSize r ≡ total size (toldOf r text) → places r ≡ need (toldOf r text)
 places-are Nothing text e k = refl
 places-are (Whole n) text e k = k ∙ segment-size whole (take n text) ∙ sym (whole-need (take n text))
-places-are (Damage n) text e k = damage-need n text (seen bytes text n damage true e)
+places-are (Damage n c) text e k = damage-need n c text (seen bytes text n (damage c) true e)
 places-are (Begun n) text e k = refl
 
 pub stands : (r : First) (text : List ℕ) → toldFirst r ≡ firstSays bytes text → Stands r text

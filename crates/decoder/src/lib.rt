@@ -186,7 +186,8 @@ fn end(state: Decoder, out: &mut [u8], list: &mut [u32]) -> Finished
             state,
         };
     }
-    let all = crate::tally::mend(state.pending, open_tally(state), state.room, out, list);
+    let first = open_tally(state);
+    let all = crate::tally::mend(state.pending, First::ENDED, first, state.room, out, list);
     Finished {
         answer: Total::Given {
             written: all.written,

@@ -8,6 +8,7 @@ ghost use Rattle.terms.specs.Form.{replacement};
 ghost use Rattle.terms.specs.Limits.{limit};
 ghost use Rattle.utf8.specs.Scalar.{utf8};
 ghost use Rattle.utf8_pending.specs.Tail.{settledSize};
+ghost use Rattle.decoder_shared.specs.Inside.Steps.{toldOf};
 ghost use Rattle.decoder.specs.Inside.Acting as acting;
 ghost use Rattle.decoder.specs.Inside.Acting.{work, logOf, reached, Fits};
 
@@ -29,7 +30,7 @@ pub(crate) fn places(seg: First) -> usize
     match seg {
         First::Nothing => 0,
         First::Whole(n) => n,
-        First::Damage(_) => MARK,
+        First::Damage(_, _) => MARK,
         First::Begun(_) => 0,
     }
 }
@@ -63,16 +64,23 @@ fn put_mark(out: &mut [u8])
     out[2] = 0xBD;
 }
 
-// U+FFFD is written for a damage of so many bytes, and it is entered and counted.
-pub(crate) fn mend(n: usize, tally: Tally, room: usize, out: &mut [u8], list: &mut [u32]) -> Tally
+// U+FFFD is written for a damage of so many bytes, and it is entered with its cause and counted.
+pub(crate) fn mend(
+    n: usize,
+    cause: u32,
+    tally: Tally,
+    room: usize,
+    out: &mut [u8],
+    list: &mut [u32],
+) -> Tally
     requires { ⌜ Fits room 3 n (work tally (now out) (now list)) ⌝ }
     ensures { λ r. ⌜ work r (now (out .exit)) (now (list .exit))
-        ≡ reached (now (out .entry)) (acting.mended room n (logOf (work tally (now (out .entry)) (now (list .entry))))) ⌝ }
+        ≡ reached (now (out .entry)) (acting.mended room n cause (logOf (work tally (now (out .entry)) (now (list .entry))))) ⌝ }
 {
     let at = tally.written;
     put_mark(&mut out[at..]);
     let start = tally.whole + tally.damaged;
-    decoder_shared::enter(list, room, tally.count, start as u32, n as u32);
+    decoder_shared::enter(list, room, tally.count, start as u32, n as u32, cause);
     Tally {
         whole: tally.whole,
         damaged: tally.damaged + n,
@@ -92,12 +100,12 @@ pub(crate) fn act(
 ) -> Tally
     requires { ⌜ acting.Stands seg (now text) × Fits room (acting.places seg) (settledSize seg) (work tally (now out) (now list)) ⌝ }
     ensures { λ r. ⌜ work r (now (out .exit)) (now (list .exit))
-        ≡ acting.acted room (acting.toldOf seg (now (text .entry))) (work tally (now (out .entry)) (now (list .entry))) ⌝ }
+        ≡ acting.acted room (toldOf seg (now (text .entry))) (work tally (now (out .entry)) (now (list .entry))) ⌝ }
 {
     match seg {
         First::Nothing => tally,
         First::Whole(n) => pass(&text[..n], tally, out),
-        First::Damage(n) => mend(n, tally, room, out, list),
+        First::Damage(n, cause) => mend(n, cause, tally, room, out, list),
         First::Begun(_) => tally,
     }
 }

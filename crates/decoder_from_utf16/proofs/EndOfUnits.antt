@@ -1,16 +1,17 @@
--- The end of a text of units: a pending half is one damage, for which U+FFFD is written.
+-- The end of a text of units: a pending half is one damage that the end stops, for which U+FFFD is written.
 use mathlib.Core.Path.{_≡_, sym, _∙_}
 use Prim.Native.Nat.{ℕ, _≤_, _<_}
+use mathlib.Core.Bool.{true}
 use mathlib.Core.List.{List, [], _∷_, _++_}
 use lib.ListN.{length, drop}
 use borrow.Author.Tests.{le-ltb}
 use native.Mathlib.Omega.{arith}
 use Rattle.theory.specs.Reader.{Segment}
-use Rattle.theory.specs.Table.{Kind, damage}
+use Rattle.theory.specs.Table.{ended, Kind, isDamage}
 use Rattle.theory.specs.Tally.{Log}
 use Rattle.terms.specs.Form.{replacement}
 use Rattle.utf8.specs.Scalar.{utf8}
-use Rattle.utf16.proofs.RowsOfUnits.{units-division, whole-sure}
+use Rattle.utf16.proofs.RowsOfUnits.{units-division, held-ended}
 use Rattle.convert_point.specs.Puts.{fitting, Puts}
 use Rattle.decoder_shared.specs.Decoding.{fresh}
 use Rattle.decoder_shared.specs.Checks.{admitSays}
@@ -28,7 +29,7 @@ use Rattle.decoder_from_utf16.proofs.SettledUnits.{units-hold}
 abbrev mark : List ℕ
 mark = utf8 .write replacement
 
-marks : (s : Segment Kind) → s .tag ≡ damage → unitDecoding .write s ≡ mark
+marks : (s : Segment Kind) → isDamage (s .tag) ≡ true → unitDecoding .write s ≡ mark
 marks s e = rw e
 
 module _ (d : UnitDecoder) (out list : List ℕ) (g : admitSays unitDecoding d 0 (length list) ≡ 0 ∷ []) where
@@ -54,7 +55,7 @@ module _ (d : UnitDecoder) (out list : List ℕ) (g : admitSays unitDecoding d 0
     some e = f (sym long ∙ e)
 
     pub end-short : length out < 3 → Finishes unitDecoding d out list out list (3 ∷ 3 ∷ []) d
-    end-short = finish-short unitDecoding d out list g units-division 1 units-hold whole-sure mark marks (left-begins d s) some
+    end-short = finish-short unitDecoding d out list g units-division 1 units-hold held-ended mark marks (left-begins d s) some
 
     pub end-fits : Fits (d .room) (d .pending) (logOf (opening d) list)
     end-fits = record {
@@ -64,10 +65,10 @@ module _ (d : UnitDecoder) (out list : List ℕ) (g : admitSays unitDecoding d 0
     }
 
     pub end-done : 3 ≤ length out → (out′ : List ℕ) (n : ℕ) → Puts (fitting utf8 (length out) replacement) out out′ n
-        → (m : Log) → m ≡ struck (d .room) (d .pending) (logOf (opening d) list) → (next : UnitDecoder) → next ≡ fresh unitDecoding (d .room)
+        → (m : Log) → m ≡ struck (d .room) (d .pending) ended (logOf (opening d) list) → (next : UnitDecoder) → next ≡ fresh unitDecoding (d .room)
         → Finishes unitDecoding d out list out′ (m .list) (0 ∷ 3 ∷ m .whole ∷ m .damaged ∷ m .count ∷ []) next
     end-done h out′ n w m e =
         let v : fitting utf8 (length out) replacement ≡ mark = rw (le-ltb (length out) 3 h) in
         let o : out′ ≡ mark ++ drop 3 out = rw v at (w .output) in
-        let k : m ≡ struck (d .room) (length (unitDecoding .stands d .left)) (logOf (opening d) list) = rw long e in
-        finish-done unitDecoding d out list g units-division 1 units-hold whole-sure mark marks (left-begins d s) some h out′ o m k
+        let k : m ≡ struck (d .room) (length (unitDecoding .stands d .left)) ended (logOf (opening d) list) = rw long e in
+        finish-done unitDecoding d out list g units-division 1 units-hold held-ended mark marks (left-begins d s) some h out′ o m k

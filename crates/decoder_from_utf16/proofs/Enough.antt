@@ -20,7 +20,7 @@ use Rattle.decoder_shared.specs.Decoding.{fed, ended}
 use Rattle.decoder_shared.specs.Room.{mostFed}
 use Rattle.decoder_shared.proofs.Enough.{Few}
 use Rattle.decoder_shared.proofs.Enough as shared
-use Rattle.decoder_shared.proofs.SettledIsCut.{settled-cut}
+use Rattle.decoder_shared.proofs.SettledIsCut.{settled-cut, point-causeless}
 use Rattle.decoder_from_utf16.specs.Tests.{sound}
 use Rattle.decoder_from_utf16.specs.State.{unitDecoding}
 use Rattle.decoder_from_utf16.specs.declared.UnitDecoder.{UnitDecoder}
@@ -37,7 +37,7 @@ one-few (suc k) n places a b c d = omega arith
 parts-small : (text : List ℕ) → length (written (unitDecoding .write) (parts units text .done)) ≤ 3 * length text
 parts-small text =
     let n : ℕ = total size (parts units text .done) in
-    rw (← settled-cut units-division units-cut text) (omega (arith, text-few Units Bytes (take n text), length-take n text))
+    rw (← settled-cut units-division units-cut (unitDecoding .write) (point-causeless utf16 utf8) text) (omega (arith, text-few Units Bytes (take n text), length-take n text))
 
 units-few : Few unitDecoding utf8
 units-few = record {

@@ -8,7 +8,7 @@ pub mod SettledUnits
 pub mod HalfPending
 -- A piece behind what is pending: a first half and the unit behind it are one segment, or the half is damage
 pub mod SeamOfUnits
--- The end of a text of units: a pending half is one damage, for which U+FFFD is written
+-- The end of a text of units: a pending half is one damage that the end stops, for which U+FFFD is written
 pub mod EndOfUnits
 -- The decoder of units is lawful: its reader divides, a state keeps what it stands for, and what balances passes the tests
 pub mod UnitsLawful

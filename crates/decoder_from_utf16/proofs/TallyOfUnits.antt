@@ -86,8 +86,8 @@ module _ (room : ℕ) (text : List ℕ) (l₀ : Log) {at : ℕ} {l : Log} (w : W
     pub next-whole : (n : ℕ) → r ≡ Whole n → Next n (passed n l)
     next-whole n e = let t = told-as (Whole n) e in next-of (Whole n) n whole t (seen units (drop at text) n whole true t)
 
-    pub next-damage : (n : ℕ) → r ≡ Damage n → Next n (struck room n l)
-    next-damage n e = let t = told-as (Damage n) e in next-of (Damage n) n damage t (seen units (drop at text) n damage true t)
+    pub next-damage : (n c : ℕ) → r ≡ Damage n c → Next n (struck room n c l)
+    next-damage n c e = let t = told-as (Damage n c) e in next-of (Damage n c) n (damage c) t (seen units (drop at text) n (damage c) true t)
 
     -- the walk ends where nothing more is settled
     pub end-nothing : r ≡ Nothing → Settles units room text l₀ l at

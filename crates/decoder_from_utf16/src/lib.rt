@@ -12,7 +12,7 @@ ghost use mathlib.Core.Path.{_≡_};
 ghost use Prim.Native.Nat.{_+_};
 ghost use mathlib.Core.List.{[], _∷_, _++_};
 ghost use lib.ListN.{length, take};
-ghost use Rattle.theory.specs.Reader.{cut, parts};
+ghost use Rattle.theory.specs.Reader.{parts};
 ghost use Rattle.terms.specs.Told.{sizeOf, toldWritten};
 ghost use Rattle.utf8.specs.Scalar.{utf8};
 ghost use Rattle.utf16.specs.Units.{units};
@@ -232,7 +232,7 @@ fn feed_rest(
 ) -> Fed
     requires { ⌜ steps.Rests unitDecoding state seg (now head) (now rest) (now list) ⌝ }
     ensures { λ r. ⌜ steps.Answers unitDecoding state taken
-        (steps.behind unitDecoding state (cut units (now (head .entry)) ++ parts units (now (rest .entry)) .done) (parts units (now (rest .entry)) .left) (now (list .entry)))
+        (steps.behind unitDecoding state (steps.toldOf seg (now (head .entry)) ++ parts units (now (rest .entry)) .done) (parts units (now (rest .entry)) .left) (now (list .entry)))
         (now (out .entry)) (now (list .entry)) (now (out .exit)) (now (list .exit)) (toldWritten (r .answer)) (r .state) ⌝ }
 {
     let all = tally_both(seg, rest, state, 0, list);
@@ -305,7 +305,8 @@ fn end(state: UnitDecoder, out: &mut [u8], list: &mut [u32]) -> Finished
         };
     }
     convert_point::put_bytes(out, 0xFFFD);
-    let all = crate::tally::strike(state.pending, open_tally(state), state.room, list);
+    let first = open_tally(state);
+    let all = crate::tally::strike(state.pending, First::ENDED, first, state.room, list);
     Finished {
         answer: Total::Given {
             written: needed,

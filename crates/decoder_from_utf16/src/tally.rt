@@ -40,13 +40,13 @@ fn pass(n: usize, tally: Tally) -> Tally
     }
 }
 
-// A damage of so many units is entered, where the list has room for it, and counted.
-pub(crate) fn strike(n: usize, tally: Tally, room: usize, list: &mut [u32]) -> Tally
+// A damage of so many units is entered with its cause, where the list has room for it, and counted.
+pub(crate) fn strike(n: usize, cause: u32, tally: Tally, room: usize, list: &mut [u32]) -> Tally
     requires { ⌜ Fits room n (logOf tally (now list)) ⌝ }
-    ensures { λ r. ⌜ logOf r (now (list .exit)) ≡ struck room n (logOf tally (now (list .entry))) ⌝ }
+    ensures { λ r. ⌜ logOf r (now (list .exit)) ≡ struck room n cause (logOf tally (now (list .entry))) ⌝ }
 {
     let start = tally.whole + tally.damaged;
-    decoder_shared::enter(list, room, tally.count, start as u32, n as u32);
+    decoder_shared::enter(list, room, tally.count, start as u32, n as u32, cause);
     Tally {
         whole: tally.whole,
         damaged: tally.damaged + n,
@@ -62,7 +62,7 @@ pub(crate) fn count(seg: First, tally: Tally, room: usize, list: &mut [u32]) -> 
     match seg {
         First::Nothing => tally,
         First::Whole(n) => pass(n, tally),
-        First::Damage(n) => strike(n, tally, room, list),
+        First::Damage(n, cause) => strike(n, cause, tally, room, list),
         First::Begun(_) => tally,
     }
 }
@@ -115,8 +115,8 @@ pub(crate) fn walk(text: &[u16], tally: Tally, room: usize, list: &mut [u32]) ->
                 tally = pass(n, tally);
                 at += n;
             }
-            First::Damage(n) => {
-                tally = strike(n, tally, room, list);
+            First::Damage(n, cause) => {
+                tally = strike(n, cause, tally, room, list);
                 at += n;
             }
             First::Begun(_) => return Settled { tally, size: at },

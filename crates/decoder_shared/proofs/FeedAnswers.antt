@@ -6,7 +6,7 @@ use lib.ListN.{length, take}
 use lib.Seq.{sets}
 use borrow.Author.Tests.{le-ltb}
 use native.Mathlib.Omega.{arith}
-use Rattle.theory.specs.Reader.{Segment, cut, parts}
+use Rattle.theory.specs.Reader.{Segment, parts}
 use Rattle.theory.specs.Stream.{State}
 use Rattle.theory.specs.Table.{Kind, isDamage}
 use Rattle.theory.specs.Tally.{written, total, Entry, entries, countOf, Log}
@@ -22,7 +22,7 @@ use Rattle.terms.proofs.ToldBack.{no-zero}
 use Rattle.decoder_shared.specs.Decoding.{Decoding, numbers, opened, fed, closed}
 use Rattle.decoder_shared.specs.Checks.{admitSays}
 use Rattle.decoder_shared.specs.Calls.{Feeds}
-use Rattle.decoder_shared.specs.Inside.Steps.{counted, tallied, talliedAs, Fits, Rests, behind, Answers}
+use Rattle.decoder_shared.specs.Inside.Steps.{counted, tallied, toldOf, talliedAs, Fits, Rests, behind, Answers}
 use Rattle.decoder_shared.proofs.ChecksInOrder.{admits, admitted-then, refused-so}
 use Rattle.decoder_shared.proofs.TalliedWalk.{tallied-whole, tallied-damaged, tallied-count}
 
@@ -60,14 +60,14 @@ pub list-same : (room : ℕ) (seg : First) (l : Log) (ss : List (Segment Kind)) 
 list-same room Nothing l ss e = sym (none-entered room l ss (omega (arith, e, tallied-count 0 l ss)))
 list-same room (Whole n) l ss e =
     sym (none-entered room (talliedAs room (Whole n) l) ss (omega (arith, e, tallied-count 0 (talliedAs 0 (Whole n) l) ss)))
-list-same room (Damage n) l ss e = absurd (omega (arith, e, tallied-count 0 (talliedAs 0 (Damage n) l) ss))
+list-same room (Damage n c) l ss e = absurd (omega (arith, e, tallied-count 0 (talliedAs 0 (Damage n c) l) ss))
 list-same room (Begun n) l ss e = sym (none-entered room l ss (omega (arith, e, tallied-count 0 l ss)))
 
 -- or the list is full
 pub list-full : (room : ℕ) (seg : First) (l : Log) (ss : List (Segment Kind)) → room ≤ l .count → l .list ≡ tallied room (talliedAs room seg l) ss .list
 list-full room Nothing l ss h = sym (full room l ss h)
 list-full room (Whole n) l ss h = sym (full room (talliedAs room (Whole n) l) ss h)
-list-full room (Damage n) l ss h = sym (full room (talliedAs room (Damage n) l) ss (omega arith) ∙ rw (le-ltb (l .count) room h))
+list-full room (Damage n c) l ss h = sym (full room (talliedAs room (Damage n c) l) ss (omega arith) ∙ rw (le-ltb (l .count) room h))
 list-full room (Begun n) l ss h = sym (full room l ss h)
 
 module _ {S : Type 0} (D : Decoding S) where
@@ -84,7 +84,7 @@ module _ {S : Type 0} (D : Decoding S) where
     done = parts (D .look) rest .done
 
     abbrev all : List (Segment Kind)
-    all = cut (D .look) head ++ done
+    all = toldOf seg head ++ done
 
     abbrev after : State Log
     after = behind D d all (parts (D .look) rest .left) list
@@ -97,7 +97,7 @@ module _ {S : Type 0} (D : Decoding S) where
     rests-dry = record { row = omega arith; sums = omega (arith, p .sums, p .size-is); counts = p .counts }
 
     both-tallied : (n : ℕ) → tallied n (talliedAs n seg begins) done ≡ tallied n begins all
-    both-tallied n = ap (λ (l : Log). tallied n l done) (p .tells n begins refl) ∙ sym (foldl-append _ begins (cut (D .look) head) done)
+    both-tallied n = ap (λ (l : Log). tallied n l done) (p .tells n begins refl) ∙ sym (foldl-append _ begins (toldOf seg head) done)
 
     -- without room nothing is entered
     pub dry-list : tallied 0 (talliedAs 0 seg begins) done .list ≡ list

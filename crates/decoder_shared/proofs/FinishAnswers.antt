@@ -2,16 +2,16 @@
 use mathlib.Core.Path.{_≡_, refl, sym, _∙_}
 use Prim.Native.Nat.{ℕ, _+_, _≤_, _<_}
 use native.Mathlib.Nat.{add-zero}
-use mathlib.Core.Bool.{true, false, cond, true≢false}
+use mathlib.Core.Bool.{true, false, cond}
 use mathlib.Core.List.{List, [], _∷_, _++_, foldl}
 use lib.ListN.{length, drop}
 use lib.Dec.{ltb}
 use borrow.Author.Tests.{not-true, lt-ltb, le-ltb}
 use native.Mathlib.Omega.{arith}
 use Rattle.theory.specs.Reader.{Segment, cut, pending}
-use Rattle.theory.specs.Table.{Kind, whole, damage, isDamage}
+use Rattle.theory.specs.Table.{Kind, damage, isDamage}
+use Rattle.theory.specs.Table as table
 use Rattle.theory.specs.Tally.{Log}
-use Rattle.theory.proofs.Cases.{split}
 use Rattle.theory.proofs.Divisions.{Division, Holds, cut-nil, cut-pending}
 use Rattle.terms.specs.Told.{toldRefusal}
 use Rattle.terms.specs.declared.Refusal.{Refusal}
@@ -22,10 +22,6 @@ use Rattle.decoder_shared.specs.Checks.{admitSays}
 use Rattle.decoder_shared.specs.Calls.{finishSays, Finishes}
 use Rattle.decoder_shared.specs.Inside.Steps.{counted, struck}
 use Rattle.decoder_shared.proofs.ChecksInOrder.{Admits, admits, admitted-then, refused-so}
-
-damage-is : (k : Kind) → isDamage k ≡ true → k ≡ damage
-damage-is whole e = absurd (true≢false (sym e))
-damage-is damage e = refl
 
 -- what finish says once it is admitted
 abbrev saysOf : Log → List ℕ → List ℕ
@@ -64,13 +60,13 @@ module _ {S : Type 0} (D : Decoding S) (d : S) (out list : List ℕ) where
         (rw (e, cut-nil (D .look)))
         (omega arith) out list refl refl next f
 
-    -- what is pending is damage, for which U+FFFD is written
+    -- what is pending is damage that the end of the text stops, for which U+FFFD is written
     module _ (divides : Division (D .look)) (hold : ℕ) (H : Holds (D .look) hold)
-        (sure : (x : ℕ) (xs : List ℕ) → isDamage (D .look x xs .tag) ≡ false → D .look x xs .sure ≡ true)
-        (mark : List ℕ) (marks : (s : Segment Kind) → s .tag ≡ damage → D .write s ≡ mark)
+        (held : (x : ℕ) (xs : List ℕ) → D .look x xs .sure ≡ false → D .look x xs .tag ≡ damage table.ended)
+        (mark : List ℕ) (marks : (s : Segment Kind) → isDamage (s .tag) ≡ true → D .write s ≡ mark)
         (begins : pending (D .look) (D .stands d .left) ≡ true) (some : length (D .stands d .left) ≡ 0 → ⊥) where
       abbrev struckLog : Log
-      struckLog = struck (D .stands d .room) (length (D .stands d .left)) (counted (D .stands d .whole) (D .stands d .damaged) (D .stands d .count) list)
+      struckLog = struck (D .stands d .room) (length (D .stands d .left)) table.ended (counted (D .stands d .whole) (D .stands d .damaged) (D .stands d .count) list)
 
       abbrev lastLog : Log
       lastLog = record { whole = struckLog .whole; damaged = struckLog .damaged; count = struckLog .count; out = mark; list = struckLog .list }
@@ -82,15 +78,13 @@ module _ {S : Type 0} (D : Decoding S) (d : S) (out list : List ℕ) where
             damaged = l .damaged + length left;
             count = l .count + 1;
             out = mark;
-            list = struck (D .stands d .room) (length left) l .list;
+            list = struck (D .stands d .room) (length left) table.ended l .list;
           }
       one-damage [] p n l o = absurd (n refl)
       one-damage (x ∷ xs) p n l o =
           let e : D .look x xs .sure ≡ false = not-true (D .look x xs .sure) p in
-          let t : D .look x xs .tag ≡ damage
-          = split (isDamage (D .look x xs .tag)) (damage-is (D .look x xs .tag)) (λ w. absurd (true≢false (sym (sure x xs w) ∙ e))) in
-          let s : Segment Kind = record { head = x; tail = xs; tag = damage } in
-          rw (cut-pending divides hold H x xs e, t, o, marks s refl) (simp add-zero)
+          let s : Segment Kind = record { head = x; tail = xs; tag = damage table.ended } in
+          rw (cut-pending divides hold H x xs e, held x xs e, o, marks s refl) (simp add-zero)
 
       last-is : ended D d list ≡ lastLog
       last-is = one-damage (D .stands d .left) begins some _ refl

@@ -9,7 +9,7 @@ use native.Mathlib.Omega.{arith}
 use Rattle.theory.specs.Reader.{Reader, Segment, body, cut, parts}
 use Rattle.theory.specs.Table.{Kind}
 use Rattle.theory.specs.Tally.{written, total, size, Log}
-use Rattle.theory.proofs.Divisions.{Division, written-append, length-written, cut-size, parts-text, parts-size}
+use Rattle.theory.proofs.Divisions.{Division, written-append, length-written, parts-text, parts-size}
 use Rattle.terms.specs.Told.{toldRefusal, sizeOf}
 use Rattle.terms.specs.Writing.{roomed, Writes}
 use Rattle.terms.specs.declared.First.{First}
@@ -18,10 +18,10 @@ use Rattle.terms.specs.declared.Written.{Written}
 use Rattle.terms.specs.declared.Written.the-variants.{Count, Refused}
 use Rattle.terms.proofs.WalkBySegments.{part-is}
 use Rattle.decoder_shared.specs.Decoding.{Decoding}
-use Rattle.decoder_shared.specs.Inside.Steps.{counted, tallied, talliedAs, Fits, Settles, Rests, behind, Answers}
+use Rattle.decoder_shared.specs.Inside.Steps.{counted, tallied, toldOf, talliedAs, Fits, Settles, Rests, behind, Answers}
 use Rattle.decoder_shared.proofs.TalliedWalk.{tallied-fits}
 use Rattle.decoder_shared.proofs.FeedAnswers.{rests-fits, rests-dry, dry-list, answers-refused, answers-granted}
-use Rattle.decoder_shared.proofs.SettledIsCut.{Cuttable, settled-cut}
+use Rattle.decoder_shared.proofs.SettledIsCut.{Cuttable, Causeless, settled-cut}
 
 -- ---- so many elements of a text are settled
 
@@ -36,7 +36,7 @@ module _ (look : Reader Kind) (text : List ℕ) where
       ap (drop (total size done)) (sym (parts-text look text))
       ∙ drop-at (written body done) (parts look text .left) (total size done) (length-written body done)
 
-module _ {S : Type 0} (D : Decoding S) (divides : Division (D .look)) (cuttable : Cuttable (D .look))
+module _ {S : Type 0} (D : Decoding S) (divides : Division (D .look)) (cuttable : Cuttable (D .look)) (causeless : Causeless (D .write))
     (d : S) (seg : First) (head rest list : List ℕ) (p : Rests D d seg head rest list) where
   abbrev room : ℕ
   room = D .stands d .room
@@ -52,10 +52,10 @@ module _ {S : Type 0} (D : Decoding S) (divides : Division (D .look)) (cuttable 
   both-fit : (n : ℕ) → Fits n (sizeOf seg + length rest) (begun list)
       → Fits n (sizeOf seg) (begun list) × Fits n (length rest) (talliedAs n seg (begun list))
   both-fit n f =
-      let k : total size (cut (D .look) head) ≡ sizeOf seg = cut-size (D .look) head ∙ sym (p .size-is) in
-      let g : Fits n (total size (cut (D .look) head) + length rest) (begun list) = rw k f in (
+      let k : total size (toldOf seg head) ≡ sizeOf seg = p .all-told ∙ sym (p .size-is) in
+      let g : Fits n (total size (toldOf seg head) + length rest) (begun list) = rw k f in (
         record { row = f .row; sums = omega (arith, f .sums); counts = f .counts },
-        rw (p .tells n (begun list) refl) (tallied-fits n (begun list) (cut (D .look) head) (length rest) g),
+        rw (p .tells n (begun list) refl) (tallied-fits n (begun list) (toldOf seg head) (length rest) g),
       )
 
   pub dry-fit : Fits 0 (sizeOf seg) (begun list) × Fits 0 (length rest) (talliedAs 0 seg (begun list))
@@ -84,14 +84,14 @@ module _ {S : Type 0} (D : Decoding S) (divides : Division (D .look)) (cuttable 
     abbrev form : List ℕ
     form = written (D .write) (cut (D .look) head) ++ written (D .write) (cut (D .look) (take n rest))
 
-    form-is : form ≡ written (D .write) (cut (D .look) head ++ settled)
+    form-is : form ≡ written (D .write) (toldOf seg head ++ settled)
     form-is =
-        rw (s .size-is, settled-cut divides cuttable rest)
-        (sym (written-append (D .write) (cut (D .look) head) settled))
+        rw (s .size-is, settled-cut divides cuttable (D .write) causeless rest, p .writes)
+        (sym (written-append (D .write) (toldOf seg head) settled))
 
     module _ (taken : ℕ) (out out′ : List ℕ) (r : Written) (w : Writes (roomed (length out) form) form out out′ r) where
       abbrev Answered : List ℕ → List ℕ → S → Type 0
-      Answered = Answers D d taken (behind D d (cut (D .look) head ++ settled) (parts (D .look) rest .left) list) out list out′
+      Answered = Answers D d taken (behind D d (toldOf seg head ++ settled) (parts (D .look) rest .left) list) out list out′
 
       -- there was no room
       pub both-refused : (why : Refusal) → r ≡ Refused why → Answered (m .list) (toldRefusal why) d

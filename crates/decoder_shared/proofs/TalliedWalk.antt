@@ -5,10 +5,10 @@ use native.Mathlib.Nat.{add-zero, zero-add}
 use mathlib.Core.Bool.{true, false, cond}
 use mathlib.Core.List.{List, [], _∷_, _++_, foldl-append}
 use lib.ListN.{length, take, drop, length-drop, take-append-drop}
-use lib.Seq.{drop-drop, length-take-le, length-sets}
+use lib.Seq.{take-take, drop-drop, length-take-le, length-sets}
 use native.Mathlib.Omega.{arith}
 use Rattle.theory.specs.Reader.{Reader, Segment, Parts, first, cut, parts}
-use Rattle.theory.specs.Table.{Kind, whole, damage, isDamage}
+use Rattle.theory.specs.Table.{ended, Kind, whole, damage, isDamage}
 use Rattle.theory.specs.Tally.{written, total, size, wholeOf, damagedOf, countOf, Log}
 use Rattle.theory.proofs.Divisions.{Division, first-size, total-append, cut-size, parts-nil, parts-sure, parts-open}
 use Rattle.theory.proofs.TalliesAdd.{whole-damaged, count-damaged, store-is, log-is}
@@ -19,7 +19,7 @@ use Rattle.terms.specs.declared.First.{First}
 use Rattle.terms.specs.declared.First.the-variants.{Nothing, Whole, Damage, Begun}
 use Rattle.terms.proofs.WalkBySegments.{Seen, seen, nothing-seen}
 use Rattle.decoder_shared.specs.Decoding.{numbers}
-use Rattle.decoder_shared.specs.Inside.Steps.{tallied, Fits, passed, struck, talliedAs, Settles}
+use Rattle.decoder_shared.specs.Inside.Steps.{tallied, Fits, passed, struck, segmentOf, toldOf, talliedAs, Settles}
 
 -- nothing is written for a segment
 abbrev unwritten : Segment Kind → List ℕ
@@ -67,13 +67,30 @@ module _ (room : ℕ) (l : Log) (none : l .out ≡ []) where
   one-passed : (s : Segment Kind) (n : ℕ) → s .tag ≡ whole → n ≡ size s → passed n l ≡ tallied room l (s ∷ [])
   one-passed s n e k = rw (e, none, k) (simp add-zero)
 
-  one-struck : (s : Segment Kind) (n : ℕ) → s .tag ≡ damage → n ≡ size s → struck room n l ≡ tallied room l (s ∷ [])
-  one-struck s n e k = rw (e, none, k) (simp add-zero)
+  one-struck : (s : Segment Kind) (n c : ℕ) → s .tag ≡ damage c → n ≡ size s → struck room n c l ≡ tallied room l (s ∷ [])
+  one-struck s n c e k = rw (e, none, k) (simp add-zero)
 
 -- the settled segment that stands first in a text, if there is one
 abbrev pub firstOf : Reader Kind → List ℕ → List (Segment Kind)
 firstOf look [] = []
 firstOf look (x ∷ xs) = cond (look x xs .sure) (first look x xs ∷ []) []
+
+-- a segment is told alike of no more than its elements
+pub told-short : (r : First) (text : List ℕ) → toldOf r (take (sizeOf r) text) ≡ toldOf r text
+told-short Nothing text = refl
+told-short (Whole n) text = rw (take-take n n text (omega arith))
+told-short (Damage n c) text = rw (take-take n n text (omega arith))
+told-short (Begun n) text = refl
+
+-- it is the segment that the reader told of the text
+one-told : (look : Reader Kind) (text : List ℕ) (n : ℕ) (kind : Kind) → Seen look text n kind true → segmentOf kind (take n text) ≡ firstOf look text
+one-told look text n kind s = rw (s .text-is, s .long-is, s .sure-is, s .kind-is)
+
+pub segment-told : (look : Reader Kind) (r : First) (text : List ℕ) → toldFirst r ≡ firstSays look text → toldOf r text ≡ firstOf look text
+segment-told look Nothing text e = rw (nothing-seen look text e)
+segment-told look (Whole n) text e = one-told look text n whole (seen look text n whole true e)
+segment-told look (Damage n c) text e = one-told look text n (damage c) (seen look text n (damage c) true e)
+segment-told look (Begun n) text e = let s = seen look text n (damage ended) false e in rw (s .text-is, s .sure-is)
 
 module _ {look : Reader Kind} (D : Division look) where
   -- what the reader told of a text is that segment, and the rest of the text goes on behind it
@@ -104,9 +121,10 @@ module _ {look : Reader Kind} (D : Division look) where
   pub told : (text : List ℕ) (r : First) → toldFirst r ≡ firstSays look text → Told text r (firstOf look text)
   told text Nothing e = rw (nothing-seen look text e) (record { tallies = λ room l o. refl; size-is = omega arith; inside = omega arith; done-are = refl })
   told text (Whole n) e = seen-told text (Whole n) n whole (seen look text n whole true e) (λ room l o s k z. one-passed room l o s n k z) refl
-  told text (Damage n) e = seen-told text (Damage n) n damage (seen look text n damage true e) (λ room l o s k z. one-struck room l o s n k z) refl
+  told text (Damage n c) e =
+      seen-told text (Damage n c) n (damage c) (seen look text n (damage c) true e) (λ room l o s k z. one-struck room l o s n c k z) refl
   told text (Begun n) e =
-      let s = seen look text n damage false e in
+      let s = seen look text n (damage ended) false e in
       let f : firstOf look text ≡ [] = rw (s .text-is, s .sure-is) in
       rw f (record { tallies = λ room l o. refl; size-is = omega arith; inside = omega arith; done-are = refl })
 
@@ -116,7 +134,7 @@ module _ {look : Reader Kind} (D : Division look) where
 
   pub told-begun : (text : List ℕ) (n : ℕ) → toldFirst (Begun n) ≡ firstSays look text → parts look text .done ≡ []
   told-begun text n e =
-      let s = seen look text n damage false e in
+      let s = seen look text n (damage ended) false e in
       rw (s .text-is, parts-open look (s .head) (s .tail) (s .sure-is))
 
   -- ---- THE WALK: what is tallied so far, and then the segments of the rest, is what those of the text give

@@ -6,7 +6,7 @@ use Rattle.theory.specs.Reader.{Reader, Segment}
 use Rattle.theory.specs.Stream.{State}
 use Rattle.theory.specs.Tally.{Entry, Log, log}
 use Rattle.theory.specs.Stream as stream
-use Rattle.theory.specs.Table.{Kind, isDamage}
+use Rattle.theory.specs.Table.{Kind, isDamage, causeOf}
 use Rattle.terms.specs.Limits.{entryWidth}
 
 -- what a state stands for: the pending elements, elements taken, those in whole segments and in damage, damages, and the list's room
@@ -27,9 +27,9 @@ pub record Decoding (S : Type 0) : Type 0 where
   pub state : Standing → S
   pub sound : S → Bool
 
--- a damage entry is two numbers: start in the joined text, and length
+-- a damage entry is three numbers: start in the joined text, length and cause
 abbrev pub numbers : Entry Kind → List ℕ
-numbers e = e .start ∷ e .long ∷ []
+numbers e = e .start ∷ e .long ∷ causeOf (e .tag) ∷ []
 
 -- what one segment, written so, does to the totals, the output and the list
 abbrev pub act : (Segment Kind → List ℕ) → ℕ → Log → Segment Kind → Log

@@ -32,8 +32,8 @@ pub fn admit(sound: bool, taken: usize, room: usize, more: usize, row: usize) ->
 }
 
 // Entry i of a list, where i is below the room and the list has places for it.
-pub fn enter(list: &mut [u32], room: usize, i: usize, start: u32, length: u32)
-    ensures { λ r. ⌜ now (list .exit) ≡ entered room (now (list .entry)) i start length ⌝ }
+pub fn enter(list: &mut [u32], room: usize, i: usize, start: u32, length: u32, cause: u32)
+    ensures { λ r. ⌜ now (list .exit) ≡ entered room (now (list .entry)) i start length cause ⌝ }
 {
     if room <= i {
         return;
@@ -44,4 +44,5 @@ pub fn enter(list: &mut [u32], room: usize, i: usize, start: u32, length: u32)
     let at = Decoder::ENTRY * i;
     list[at] = start;
     list[at + 1] = length;
+    list[at + 2] = cause;
 }

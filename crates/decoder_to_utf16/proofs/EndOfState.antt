@@ -1,12 +1,13 @@
 -- The end of a text whose state may end it: nothing is pending, or what is pending is one damage.
 use mathlib.Core.Path.{_≡_, sym, _∙_}
 use Prim.Native.Nat.{ℕ, _≤_, _<_}
+use mathlib.Core.Bool.{true}
 use mathlib.Core.List.{List, [], _∷_, _++_}
 use lib.ListN.{length, drop}
 use borrow.Author.Tests.{le-ltb}
 use native.Mathlib.Omega.{arith}
 use Rattle.theory.specs.Reader.{Segment}
-use Rattle.theory.specs.Table.{Kind, damage}
+use Rattle.theory.specs.Table.{ended, Kind, isDamage}
 use Rattle.theory.specs.Tally.{Log}
 use Rattle.terms.specs.Form.{replacement, pointOf}
 use Rattle.terms.specs.Limits.{mostPending}
@@ -14,7 +15,7 @@ use Rattle.terms.specs.Told.{toldRefusal}
 use Rattle.terms.specs.declared.Decoder.{Decoder}
 use Rattle.terms.specs.declared.Refusal.the-variants.{NoRoom}
 use Rattle.utf8.specs.Scalar.{utf8}
-use Rattle.utf8.proofs.RowsOfBytes.{bytes-division, bytes-hold, whole-sure}
+use Rattle.utf8.proofs.RowsOfBytes.{bytes-division, bytes-hold, held-ended}
 use Rattle.utf16.specs.Scalar.{utf16}
 use Rattle.convert_point.specs.Puts.{fitting, Puts}
 use Rattle.decoder.specs.Tests.{left}
@@ -33,7 +34,7 @@ use Rattle.decoder_to_utf16.specs.Inside.Tallying.{logOf, opening}
 abbrev mark : List ℕ
 mark = utf16 .write replacement
 
-marks : (s : Segment Kind) → s .tag ≡ damage → utf16 .write (pointOf utf8 s) ≡ mark
+marks : (s : Segment Kind) → isDamage (s .tag) ≡ true → utf16 .write (pointOf utf8 s) ≡ mark
 marks s e = rw e
 
 module _ (d : Decoder) (out list : List ℕ) (g : admitSays toUnits d 0 (length list) ≡ 0 ∷ []) where
@@ -61,12 +62,12 @@ module _ (d : Decoder) (out list : List ℕ) (g : admitSays toUnits d 0 (length 
     some z = p (sym long ∙ z)
 
     pub end-short : length out < 1 → Finishes toUnits d out list out list (toldRefusal (NoRoom 1)) d
-    end-short = finish.finish-short toUnits d out list g bytes-division mostPending bytes-hold whole-sure mark marks (passes .tail .begins) some
+    end-short = finish.finish-short toUnits d out list g bytes-division mostPending bytes-hold held-ended mark marks (passes .tail .begins) some
 
     pub end-done : 1 ≤ length out → (out′ : List ℕ) (n : ℕ) → Puts (fitting utf16 (length out) replacement) out out′ n
-        → (m : Log) → m ≡ struck (d .room) (d .pending) (logOf (opening d) list) → (next : Decoder) → next ≡ fresh toUnits (d .room)
+        → (m : Log) → m ≡ struck (d .room) (d .pending) ended (logOf (opening d) list) → (next : Decoder) → next ≡ fresh toUnits (d .room)
         → Finishes toUnits d out list out′ (m .list) (0 ∷ 1 ∷ m .whole ∷ m .damaged ∷ m .count ∷ []) next
     end-done h out′ n w m e =
         let o : out′ ≡ mark ++ drop 1 out = w .output ∙ rw (le-ltb (length out) 1 h) in
-        let s : m ≡ struck (d .room) (length (left d)) (logOf (opening d) list) = rw long e in
-        finish.finish-done toUnits d out list g bytes-division mostPending bytes-hold whole-sure mark marks (passes .tail .begins) some h out′ o m s
+        let s : m ≡ struck (d .room) (length (left d)) ended (logOf (opening d) list) = rw long e in
+        finish.finish-done toUnits d out list g bytes-division mostPending bytes-hold held-ended mark marks (passes .tail .begins) some h out′ o m s

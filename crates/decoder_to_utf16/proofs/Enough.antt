@@ -12,7 +12,7 @@ use Rattle.theory.proofs.Cases.{split}
 use Rattle.terms.specs.Limits.{limit, mostPending}
 use Rattle.terms.specs.declared.Decoder.{Decoder}
 use Rattle.utf8.specs.Bytes.{bytes}
-use Rattle.utf8.specs.Scalar.{number}
+use Rattle.utf8.specs.Scalar.{number, utf8}
 use Rattle.utf8.proofs.RowsOfBytes.{bytes-division, bytes-hold}
 use Rattle.utf16.specs.Scalar.{pair, utf16}
 use Rattle.utf16.proofs.FaithfulForm.{is-one}
@@ -24,7 +24,7 @@ use Rattle.decoder_shared.specs.Decoding.{fed, ended}
 use Rattle.decoder_shared.specs.Room.{mostFed}
 use Rattle.decoder_shared.proofs.Enough.{Few}
 use Rattle.decoder_shared.proofs.Enough as shared
-use Rattle.decoder_shared.proofs.SettledIsCut.{settled-cut}
+use Rattle.decoder_shared.proofs.SettledIsCut.{settled-cut, point-causeless}
 use Rattle.decoder_to_utf16.specs.State.{toUnits}
 use Rattle.decoder_to_utf16.proofs.SeamDivides.{bytes-cut}
 
@@ -42,7 +42,7 @@ one-few s n l h = split (isDamage (s .tag)) (λ e. rw e (omega arith)) (λ e. rw
 parts-small : (text : List ℕ) → length (written (toUnits .write) (parts bytes text .done)) ≤ length text
 parts-small text =
     let n : ℕ = total size (parts bytes text .done) in
-    rw (← settled-cut bytes-division bytes-cut text) (omega (arith, text-few Bytes Units (take n text), length-take n text))
+    rw (← settled-cut bytes-division bytes-cut (toUnits .write) (point-causeless utf8 utf16) text) (omega (arith, text-few Bytes Units (take n text), length-take n text))
 
 units-few : Few toUnits utf16
 units-few = record {

@@ -1,12 +1,12 @@
 -- The settled segment that stands first in a byte text, as the reader of pieces tells it and as the tally takes it.
-use mathlib.Core.Path.{_≡_, refl, sym, ap, _∙_}
+use mathlib.Core.Path.{_≡_, sym, ap, _∙_}
 use Prim.Native.Nat.{ℕ, _≤_}
 use mathlib.Core.Bool.{Bool, true, false}
-use mathlib.Core.List.{List, [], _∷_}
+use mathlib.Core.List.{List, []}
 use lib.ListN.{length}
 use native.Mathlib.Omega.{arith}
 use Rattle.theory.specs.Reader.{Parts, parts}
-use Rattle.theory.specs.Table.{Kind, whole, damage}
+use Rattle.theory.specs.Table.{ended, Kind, whole, damage}
 use Rattle.theory.specs.Tally.{total, size}
 use Rattle.terms.specs.Told.{toldFirst, firstSays, sizeOf}
 use Rattle.terms.specs.declared.First.{First}
@@ -14,14 +14,10 @@ use Rattle.terms.specs.declared.First.the-variants.{Nothing, Whole, Damage, Beg
 use Rattle.terms.proofs.WalkBySegments.{Seen, seen}
 use Rattle.utf8.specs.Bytes.{bytes}
 use Rattle.utf8.proofs.RowsOfBytes.{bytes-division}
-use Rattle.utf8_pending.specs.Tail.{firstSettled, settledSize}
+use Rattle.utf8_pending.specs.Tail.{settledSize}
 use Rattle.utf8_pending.proofs.SettledFirst.{settled-none, told-size}
 use Rattle.decoder_shared.proofs.TalliedWalk.{firstOf}
-
-pub first-is : (text : List ℕ) → firstSettled text ≡ firstOf bytes text
-unfolding firstSettled
-first-is [] = refl
-first-is (x ∷ xs) = refl
+use Rattle.decoder.proofs.SettledByReader.{first-is}
 
 module _ (r : First) (text : List ℕ) (e : toldFirst r ≡ firstSays bytes text) where
   pub first-size : settledSize r ≡ total size (firstOf bytes text)
@@ -38,5 +34,5 @@ seen-inside text n s = rw (s .text-is) (omega (arith, s .long-is, bytes-division
 pub told-inside : (r : First) (text : List ℕ) → toldFirst r ≡ firstSays bytes text → sizeOf r ≤ length text
 told-inside Nothing text e = omega arith
 told-inside (Whole n) text e = seen-inside text n (seen bytes text n whole true e)
-told-inside (Damage n) text e = seen-inside text n (seen bytes text n damage true e)
-told-inside (Begun n) text e = seen-inside text n (seen bytes text n damage false e)
+told-inside (Damage n c) text e = seen-inside text n (seen bytes text n (damage c) true e)
+told-inside (Begun n) text e = seen-inside text n (seen bytes text n (damage ended) false e)

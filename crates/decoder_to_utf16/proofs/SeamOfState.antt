@@ -4,7 +4,7 @@ use Prim.Native.Nat.{ℕ, _+_, _-_, _≤_, _<_}
 use mathlib.Core.List.{List, [], _∷_, _++_}
 use lib.ListN.{length, take, drop, length-drop}
 use native.Mathlib.Omega.{arith}
-use Rattle.theory.specs.Reader.{Parts, cut, parts}
+use Rattle.theory.specs.Reader.{Parts, parts}
 use Rattle.theory.specs.Stream.{State}
 use Rattle.theory.specs.Table.{Kind}
 use Rattle.theory.specs.Tally.{total, size, Log}
@@ -13,6 +13,8 @@ use Rattle.terms.specs.Told.{toldFirst, firstSays}
 use Rattle.terms.specs.declared.Decoder.{Decoder}
 use Rattle.terms.specs.declared.First.{First}
 use Rattle.utf8.specs.Bytes.{bytes}
+use Rattle.utf8.specs.Scalar.{utf8}
+use Rattle.utf16.specs.Scalar.{utf16}
 use Rattle.utf8_pending.specs.Tail.{firstSettled, seamed}
 use Rattle.utf8_pending.proofs.SeamIsFirst.{read-still, read-inside}
 use Rattle.decoder.specs.Tests.{left}
@@ -20,8 +22,9 @@ use Rattle.decoder.proofs.SeamSettled.{left-long}
 use Rattle.decoder.proofs.TestsAsFacts.{Sound, sound-is}
 use Rattle.decoder_shared.specs.Decoding.{fed}
 use Rattle.decoder_shared.specs.Checks.{admitSays}
-use Rattle.decoder_shared.specs.Inside.Steps.{Rests, behind}
+use Rattle.decoder_shared.specs.Inside.Steps.{toldOf, Rests, behind}
 use Rattle.decoder_shared.proofs.ChecksInOrder.{Admits, admits}
+use Rattle.decoder_shared.proofs.SettledIsCut.{point-causeless}
 use Rattle.decoder_to_utf16.specs.State.{toUnits}
 use Rattle.decoder_to_utf16.proofs.SeamDivides as divides
 
@@ -58,15 +61,19 @@ module _ (d : Decoder) (piece list seam : List ℕ) (g : admitSays toUnits d (le
     pub join-inside : taken - d .pending ≤ length piece
     join-inside = read-inside (left d) piece seam (d .pending) (passes .tail .begins) long seam-is h
 
-    pub join-behind : fed toUnits d piece list ≡ behind toUnits d (cut bytes (take taken seam) ++ parts bytes rest .done) (parts bytes rest .left) list
-    join-behind = ap (streamed d list) (divides.seam-divides (left d) piece seam (d .pending) (passes .tail .begins) long seam-is h)
+    pub join-behind : (seg : First) → toldFirst seg ≡ firstSays bytes seam
+        → fed toUnits d piece list ≡ behind toUnits d (toldOf seg (take taken seam) ++ parts bytes rest .done) (parts bytes rest .left) list
+    join-behind seg e = ap (streamed d list) (divides.seam-divides (left d) piece seam (d .pending) (passes .tail .begins) long seam-is h seg e)
 
     pub join-rests : (seg : First) → toldFirst seg ≡ firstSays bytes seam → Rests toUnits d seg (take taken seam) rest list
     join-rests seg e =
         let b = passes .numbers in
         record {
           tells = divides.seam-tells (left d) piece seam (d .pending) (passes .tail .begins) long seam-is h seg e;
+          writes =
+              divides.seam-writes (left d) piece seam (d .pending) (passes .tail .begins) long seam-is h seg e (toUnits .write) (point-causeless utf8 utf16);
           size-is = divides.seam-size (left d) piece seam (d .pending) (passes .tail .begins) long seam-is h seg e;
+          all-told = divides.seam-all (left d) piece seam (d .pending) (passes .tail .begins) long seam-is h seg e;
           sums = omega (
             arith,
             h,

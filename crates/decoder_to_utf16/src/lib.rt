@@ -9,7 +9,7 @@ ghost use mathlib.Core.Path.{_≡_};
 ghost use Prim.Native.Nat.{_+_};
 ghost use mathlib.Core.List.{[], _∷_, _++_};
 ghost use lib.ListN.{length};
-ghost use Rattle.theory.specs.Reader.{cut, parts};
+ghost use Rattle.theory.specs.Reader.{parts};
 ghost use Rattle.terms.specs.Told.{toldFirst, firstSays, sizeOf, toldWritten};
 ghost use Rattle.utf8.specs.Bytes.{bytes};
 ghost use Rattle.utf16.specs.Scalar.{utf16};
@@ -112,7 +112,7 @@ fn feed_rest(
 ) -> Fed
     requires { ⌜ steps.Rests toUnits state seg (now head) (now rest) (now list) ⌝ }
     ensures { λ r. ⌜ steps.Answers toUnits state taken
-        (steps.behind toUnits state (cut bytes (now (head .entry)) ++ parts bytes (now (rest .entry)) .done) (parts bytes (now (rest .entry)) .left) (now (list .entry)))
+        (steps.behind toUnits state (steps.toldOf seg (now (head .entry)) ++ parts bytes (now (rest .entry)) .done) (parts bytes (now (rest .entry)) .left) (now (list .entry)))
         (now (out .entry)) (now (list .entry)) (now (out .exit)) (now (list .exit)) (toldWritten (r .answer)) (r .state) ⌝ }
 {
     let all = tally_both(seg, rest, state, 0, list);
@@ -204,7 +204,8 @@ fn end(state: Decoder, out: &mut [u16], list: &mut [u32]) -> Finished
         };
     }
     convert_point::put_units(out, 0xFFFD);
-    let all = crate::tally::strike(state.pending, open_tally(state), state.room, list);
+    let first = open_tally(state);
+    let all = crate::tally::strike(state.pending, First::ENDED, first, state.room, list);
     Finished {
         answer: Total::Given {
             written: needed,

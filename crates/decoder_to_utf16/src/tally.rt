@@ -36,13 +36,13 @@ fn pass(n: usize, tally: Tally) -> Tally
     }
 }
 
-// A damage of so many bytes is entered, where the list has room for it, and counted.
-pub(crate) fn strike(n: usize, tally: Tally, room: usize, list: &mut [u32]) -> Tally
+// A damage of so many bytes is entered with its cause, where the list has room for it, and counted.
+pub(crate) fn strike(n: usize, cause: u32, tally: Tally, room: usize, list: &mut [u32]) -> Tally
     requires { ⌜ Fits room n (logOf tally (now list)) ⌝ }
-    ensures { λ r. ⌜ logOf r (now (list .exit)) ≡ struck room n (logOf tally (now (list .entry))) ⌝ }
+    ensures { λ r. ⌜ logOf r (now (list .exit)) ≡ struck room n cause (logOf tally (now (list .entry))) ⌝ }
 {
     let start = tally.whole + tally.damaged;
-    decoder_shared::enter(list, room, tally.count, start as u32, n as u32);
+    decoder_shared::enter(list, room, tally.count, start as u32, n as u32, cause);
     Tally {
         whole: tally.whole,
         damaged: tally.damaged + n,
@@ -58,7 +58,7 @@ pub(crate) fn count(seg: First, tally: Tally, room: usize, list: &mut [u32]) -> 
     match seg {
         First::Nothing => tally,
         First::Whole(n) => pass(n, tally),
-        First::Damage(n) => strike(n, tally, room, list),
+        First::Damage(n, cause) => strike(n, cause, tally, room, list),
         First::Begun(_) => tally,
     }
 }

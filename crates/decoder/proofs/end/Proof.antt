@@ -57,7 +57,7 @@ returns-3 c =
     let z = e .before .before .before .before in
     let a = z .args in
     finish-done (a .state) (a .out .now) (a .list .now) (three z) (z .pre) (e .if1 .left) (o .before .if2 .left)
-    (work (t .mend .result) (t .mend .last .1 .1 .1 .0) (t .mend .last .1 .1 .1 .1 .0))
+    (work (t .mend .result) (t .mend .last .1 .1 .1 .1 .0) (t .mend .last .1 .1 .1 .1 .1 .0))
     (rw (o .open-tally .ensures) at (t .mend .ensures)) (c .fresh2 .result) (c .fresh2 .ensures)
 
 pub end-spec : {M : Type 1} → statement M

@@ -7,7 +7,8 @@ use native.Mathlib.Omega.{arith}
 use Rattle.theory.specs.Reader.{parts}
 use Rattle.terms.proofs.WalkBySegments.{part-is}
 use Rattle.utf8.specs.Bytes.{bytes}
-use Rattle.decoder.specs.Inside.Acting.{need, places, toldOf, work, acted}
+use Rattle.decoder_shared.specs.Inside.Steps.{toldOf}
+use Rattle.decoder.specs.Inside.Acting.{need, places, work, acted}
 use Rattle.decoder.specs.Inside.Steps.{tallyOf, keeping}
 use Rattle.decoder_shared.proofs.SettledText.{settled-inside, settled-left}
 use Rattle.decoder.proofs.SettledPlaces.{lack-some, lack-none}

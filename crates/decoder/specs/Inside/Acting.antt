@@ -6,7 +6,7 @@ use lib.ListN.{length, take, drop}
 use lib.Dec.{ltb}
 use mathlib.Core.Bool.{cond}
 use Rattle.theory.specs.Reader.{Segment, parts}
-use Rattle.theory.specs.Table.{Kind, whole, damage}
+use Rattle.theory.specs.Table.{Kind, damage}
 use Rattle.theory.specs.Tally.{written, total, size, store, Log}
 use Rattle.terms.specs.Form.{replacement, mend}
 use Rattle.terms.specs.Limits.{limit, entryWidth}
@@ -16,6 +16,7 @@ use Rattle.utf8.specs.Bytes.{bytes}
 use Rattle.utf8.specs.Scalar.{utf8}
 use Rattle.utf8_pending.specs.Tail.{settledSize}
 use Rattle.decoder_shared.specs.Decoding.{numbers}
+use Rattle.decoder_shared.specs.Inside.Steps.{toldOf}
 use Rattle.decoder.specs.State.{act}
 use Rattle.decoder.specs.declared.tally.Tally.{Tally}
 
@@ -32,22 +33,10 @@ lack needed most = cond (ltb most needed) needed 0
 abbrev pub places : First → ℕ
 places Nothing = 0
 places (Whole n) = n
-places (Damage n) = 3
+places (Damage n cause) = 3
 places (Begun n) = 0
 
--- the segment of these bytes, if there are any
-abbrev pub segmentOf : Kind → List ℕ → List (Segment Kind)
-segmentOf kind [] = []
-segmentOf kind (x ∷ xs) = record { head = x; tail = xs; tag = kind } ∷ []
-
--- the segment that is told of a text, if it is settled
-abbrev pub toldOf : First → List ℕ → List (Segment Kind)
-toldOf Nothing text = []
-toldOf (Whole n) text = segmentOf whole (take n text)
-toldOf (Damage n) text = segmentOf damage (take n text)
-toldOf (Begun n) text = []
-
--- it stands there, with its bytes and its places
+-- the settled segment that is told of a text stands there, with its bytes and its places
 pub record Stands (seg : First) (text : List ℕ) : Type 0 where
   pub bytes-are : settledSize seg ≡ total size (toldOf seg text)
   pub places-are : places seg ≡ need (toldOf seg text)
@@ -104,12 +93,12 @@ pub record Settles (room : ℕ) (text : List ℕ) (w v : Work) (n : ℕ) : Type 
 abbrev pub passed : List ℕ → Log → Log
 passed run l = record { whole = l .whole + length run; damaged = l .damaged; count = l .count; out = l .out ++ run; list = l .list }
 
--- U+FFFD is written for a damage of n bytes, and it is entered in the list, if there is room
-abbrev pub mended : ℕ → ℕ → Log → Log
-mended room n l = record {
+-- U+FFFD is written for a damage of n bytes and of a cause, and it is entered in the list, if there is room
+abbrev pub mended : ℕ → ℕ → ℕ → Log → Log
+mended room n cause l = record {
   whole = l .whole;
   damaged = l .damaged + n;
   count = l .count + 1;
   out = l .out ++ utf8 .write replacement;
-  list = store numbers entryWidth room (l .list) (l .count) (record { start = l .whole + l .damaged; long = n; tag = damage } ∷ []);
+  list = store numbers entryWidth room (l .list) (l .count) (record { start = l .whole + l .damaged; long = n; tag = damage cause } ∷ []);
 }

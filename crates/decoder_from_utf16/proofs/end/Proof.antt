@@ -51,7 +51,7 @@ returns-3 c =
     let e = r .before in
     let z = e .before .before .before .before in
     end-done (z .args .state) (z .args .out .now) (z .args .list .now) (z .pre) (e .if1 .left) (r .if2 .left) _ _ (w .put-bytes .ensures)
-    (logOf (k .strike .result) (k .strike .last .1 .1 .1 .0)) (rw (o .open-tally .ensures) at (k .strike .ensures)) (c .fresh2 .result) (c .fresh2 .ensures)
+    (logOf (k .strike .result) (k .strike .last .1 .1 .1 .1 .0)) (rw (o .open-tally .ensures) at (k .strike .ensures)) (c .fresh2 .result) (c .fresh2 .ensures)
 
 pub end-spec : {M : Type 1} → statement M
 end-spec =

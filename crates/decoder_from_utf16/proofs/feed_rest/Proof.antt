@@ -6,6 +6,9 @@ use lib.Seq.{length-take-le}
 use native.Mathlib.Omega.{arith}
 use Rattle.utf16.specs.Units.{units}
 use Rattle.utf16.proofs.RowsOfUnits.{units-division}
+use Rattle.utf8.specs.Scalar.{utf8}
+use Rattle.utf16.specs.Scalar.{utf16}
+use Rattle.decoder_shared.proofs.SettledIsCut.{point-causeless}
 use Rattle.decoder_shared.proofs.SettledText.{settled-inside, dry-fit, enterable, both-refused, both-granted}
 use Rattle.decoder_from_utf16.specs.State.{unitDecoding}
 use Rattle.decoder_from_utf16.proofs.SettledUnits.{units-cut}
@@ -16,7 +19,7 @@ use Rattle.decoder_from_utf16.proofs.feed_rest.Tie as tie
 tally-both-requires : tie.Need-tally-both-requires
 tally-both-requires c κs =
     let z = c .before .before .before .before .before in
-    dry-fit unitDecoding units-division units-cut (z .args .state) (z .args .seg) (z .args .head .now) (z .args .rest .now) (z .args .list .now) (z .pre)
+    dry-fit unitDecoding units-division units-cut (point-causeless utf16 utf8) (z .args .state) (z .args .seg) (z .args .head .now) (z .args .rest .now) (z .args .list .now) (z .pre)
 
 -- what is settled lies in the text
 inside : (c : tie.After-tally-both) → c .tally-both .result .size ≤ length (c .before .before .before .before .before .before .args .rest .now)
@@ -45,7 +48,7 @@ enter-both-requires : tie.Need-enter-both-requires
 enter-both-requires c κs =
     let t = c .before .before .before .before .before .before .before .before .before .before .before .before in
     let z = t .before .before .before .before .before .before in
-    enterable unitDecoding units-division units-cut (z .args .state) (z .args .seg) (z .args .head .now) (z .args .rest .now) (z .args .list .now) (z .pre)
+    enterable unitDecoding units-division units-cut (point-causeless utf16 utf8) (z .args .state) (z .args .seg) (z .args .head .now) (z .args .rest .now) (z .args .list .now) (z .pre)
     _ (t .tally-both .result .size) (t .tally-both .ensures)
 
 -- the tally before the entries
@@ -84,7 +87,7 @@ returns c =
     let t = tallied e in
     let z = t .before .before .before .before .before .before in
     let a = z .args in
-    both-granted unitDecoding units-division units-cut (a .state) (a .seg) (a .head .now) (a .rest .now) (a .list .now) (z .pre)
+    both-granted unitDecoding units-division units-cut (point-causeless utf16 utf8) (a .state) (a .seg) (a .head .now) (a .rest .now) (a .list .now) (z .pre)
     _ (t .tally-both .result .size) (t .tally-both .ensures)
     (a .taken) (a .out .now) _ (g .write-both .result) (g .write-both .ensures) _ (n .n .given .1) _ (e .enter-both .ensures) (c .keep .result) (c .keep .ensures)
 
@@ -101,7 +104,7 @@ returns-2 c =
     let t = g .before .before .before .before .before .before in
     let z = t .before .before .before .before .before .before in
     let a = z .args in
-    both-refused unitDecoding units-division units-cut (a .state) (a .seg) (a .head .now) (a .rest .now) (a .list .now) (z .pre)
+    both-refused unitDecoding units-division units-cut (point-causeless utf16 utf8) (a .state) (a .seg) (a .head .now) (a .rest .now) (a .list .now) (z .pre)
     _ (t .tally-both .result .size) (t .tally-both .ensures)
     (a .taken) (a .out .now) _ (g .write-both .result) (g .write-both .ensures) _ (w .why .given .1)
 

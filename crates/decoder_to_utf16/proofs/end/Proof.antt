@@ -64,7 +64,7 @@ returns-3 c =
     let z = start e in
     let a = z .args in
     end-done (a .state) (a .out .now) (a .list .now) (z .pre) (three z) (e .before .if1 .left) (e .if2 .left) _ (u .put-units .result) (u .put-units .ensures)
-    (logOf (t .strike .result) (t .strike .last .1 .1 .1 .0)) (rw (o .open-tally .ensures) at (t .strike .ensures)) (c .fresh2 .result) (c .fresh2 .ensures)
+    (logOf (t .strike .result) (t .strike .last .1 .1 .1 .1 .0)) (rw (o .open-tally .ensures) at (t .strike .ensures)) (c .fresh2 .result) (c .fresh2 .ensures)
 
 pub end-spec : {M : Type 1} → statement M
 end-spec =

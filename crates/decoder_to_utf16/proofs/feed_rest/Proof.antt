@@ -6,6 +6,9 @@ use lib.Seq.{length-take-le}
 use native.Mathlib.Omega.{arith}
 use Rattle.utf8.specs.Bytes.{bytes}
 use Rattle.utf8.proofs.RowsOfBytes.{bytes-division}
+use Rattle.utf8.specs.Scalar.{utf8}
+use Rattle.utf16.specs.Scalar.{utf16}
+use Rattle.decoder_shared.proofs.SettledIsCut.{point-causeless}
 use Rattle.decoder_shared.proofs.SettledText.{settled-inside, dry-fit, enterable, both-refused, both-granted}
 use Rattle.decoder_to_utf16.specs.State.{toUnits}
 use Rattle.decoder_to_utf16.proofs.SeamDivides.{bytes-cut}
@@ -16,7 +19,7 @@ use Rattle.decoder_to_utf16.proofs.feed_rest.Tie as tie
 tally-both-requires : tie.Need-tally-both-requires
 tally-both-requires c κs =
     let z = c .before .before .before .before .before in
-    dry-fit toUnits bytes-division bytes-cut (z .args .state) (z .args .seg) (z .args .head .now) (z .args .rest .now) (z .args .list .now) (z .pre)
+    dry-fit toUnits bytes-division bytes-cut (point-causeless utf8 utf16) (z .args .state) (z .args .seg) (z .args .head .now) (z .args .rest .now) (z .args .list .now) (z .pre)
 
 -- what is settled lies in the text
 inside : (c : tie.After-tally-both) → c .tally-both .result .size ≤ length (c .before .before .before .before .before .before .args .rest .now)
@@ -45,7 +48,7 @@ enter-both-requires : tie.Need-enter-both-requires
 enter-both-requires c κs =
     let t = c .before .before .before .before .before .before .before .before .before .before .before .before in
     let z = t .before .before .before .before .before .before in
-    enterable toUnits bytes-division bytes-cut (z .args .state) (z .args .seg) (z .args .head .now) (z .args .rest .now) (z .args .list .now) (z .pre)
+    enterable toUnits bytes-division bytes-cut (point-causeless utf8 utf16) (z .args .state) (z .args .seg) (z .args .head .now) (z .args .rest .now) (z .args .list .now) (z .pre)
     _ (t .tally-both .result .size) (t .tally-both .ensures)
 
 -- the tally before the entries
@@ -81,7 +84,7 @@ returns c =
     let t = tallied e in
     let z = t .before .before .before .before .before .before in
     let a = z .args in
-    both-granted toUnits bytes-division bytes-cut (a .state) (a .seg) (a .head .now) (a .rest .now) (a .list .now) (z .pre)
+    both-granted toUnits bytes-division bytes-cut (point-causeless utf8 utf16) (a .state) (a .seg) (a .head .now) (a .rest .now) (a .list .now) (z .pre)
     _ (t .tally-both .result .size) (t .tally-both .ensures)
     (a .taken) (a .out .now) _ (g .write-both .result) (g .write-both .ensures) _ (n .n .given .1) _ (e .enter-both .ensures) (c .keep .result) (c .keep .ensures)
 
@@ -98,7 +101,7 @@ returns-2 c =
     let t = g .before .before .before .before .before .before in
     let z = t .before .before .before .before .before .before in
     let a = z .args in
-    both-refused toUnits bytes-division bytes-cut (a .state) (a .seg) (a .head .now) (a .rest .now) (a .list .now) (z .pre)
+    both-refused toUnits bytes-division bytes-cut (point-causeless utf8 utf16) (a .state) (a .seg) (a .head .now) (a .rest .now) (a .list .now) (z .pre)
     _ (t .tally-both .result .size) (t .tally-both .ensures)
     (a .taken) (a .out .now) _ (g .write-both .result) (g .write-both .ensures) _ (w .why .given .1)
 

@@ -115,7 +115,8 @@ returns-2 c =
     let r = f .feed-rest .result in
     subst (λ (s : State Log). Answers toUnits (a .state) (a .state .taken + length (a .piece .now)) s (a .out .now) (a .list .now) out′ list′
     (toldWritten (r .answer)) (r .state))
-    (sym (join-behind (a .state) (a .piece .now) (a .list .now) (a .seam .now) (z .pre .0) (z .pre .1) (three z) (over e)))
+    (sym (join-behind (a .state) (a .piece .now) (a .list .now) (a .seam .now) (z .pre .0) (z .pre .1) (three z) (over e)
+    (t .before .first-of .result) (t .before .first-of .ensures)))
     (rw (part-is, size-is t) at (f .feed-rest .ensures))
 
 pub join-spec : {M : Type 1} → statement M

@@ -83,10 +83,11 @@ returns-3 c =
     let z = s .before .before .before .before .before in
     let a = z .args in
     let n = s .seg2 .given .0 .0 in
+    let why = s .seg2 .given .0 .1 .0 in
     let w : Work = work (a .tally) (a .out .now) (a .list .now) in
-    let k : Stands (Damage n) (a .text .now) = rw (s .seg2 .given .1) at (z .pre .0) in
+    let k : Stands (Damage n why) (a .text .now) = rw (s .seg2 .given .1) at (z .pre .0) in
     rw (s .seg2 .given .1)
-    (m .mend .ensures ∙ ap (reached (a .out .now)) (mended-acts (a .room) n (take n (a .text .now)) (k .bytes-are) (k .places-are) (logOf w)))
+    (m .mend .ensures ∙ ap (reached (a .out .now)) (mended-acts (a .room) n why (take n (a .text .now)) (k .bytes-are) (k .places-are) (logOf w)))
 
 returns-4 : tie.Need-returns-4
 returns-4 c =

@@ -33,14 +33,14 @@ cast-enter-2 c = search needs
 enter-requires : tie.Need-enter-requires
 enter-requires c κs = search needs
 
-add-t10 : tie.Need-add-t10
-add-t10 c = search needs
-
-add-t17 : tie.Need-add-t17
-add-t17 c = search needs
+add-t11 : tie.Need-add-t11
+add-t11 c = search needs
 
 add-t18 : tie.Need-add-t18
 add-t18 c = search needs
+
+add-t19 : tie.Need-add-t19
+add-t19 c = search needs
 
 same-length : tie.Need-same-length
 same-length c = search needs
@@ -56,7 +56,7 @@ returns c =
     let a = z .args in
     let t = a .tally in
     put-reached t (a .out .now) (k .enter .last .0) (utf8 .write replacement) (p .put-mark .last .0) (z .pre .enough) (p .put-mark .ensures) (t .whole) (t .damaged + a .n) (t .count + 1)
-    ∙ rw (k .enter .ensures, entered-is (a .room) (t .count) (t .whole + t .damaged) (a .n) (a .list .now) (z .pre .row))
+    ∙ rw (k .enter .ensures, entered-is (a .room) (t .count) (t .whole + t .damaged) (a .n) (a .cause) (a .list .now) (z .pre .row))
 
 pub mend-spec : {M : Type 1} → statement M
 mend-spec =
@@ -70,9 +70,9 @@ mend-spec =
     cast-enter
     cast-enter-2
     enter-requires
-    add-t10
-    add-t17
+    add-t11
     add-t18
+    add-t19
     same-length
     same-length-2
     returns)

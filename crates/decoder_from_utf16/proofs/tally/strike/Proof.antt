@@ -17,11 +17,11 @@ cast-enter-2 c = search needs
 enter-requires : tie.Need-enter-requires
 enter-requires c κs = search needs
 
-add-t11 : tie.Need-add-t11
-add-t11 c = search needs
-
 add-t12 : tie.Need-add-t12
 add-t12 c = search needs
+
+add-t13 : tie.Need-add-t13
+add-t13 c = search needs
 
 same-length : tie.Need-same-length
 same-length c = search needs
@@ -31,9 +31,9 @@ returns c =
     let e = c .before .before .before .before in
     let s = e .before .before .before .before in
     let a = s .args in
-    rw (e .enter .ensures, entered-is (a .room) (a .tally .count) (a .tally .whole + a .tally .damaged) (a .n) (a .list .now) (s .pre .row))
+    rw (e .enter .ensures, entered-is (a .room) (a .tally .count) (a .tally .whole + a .tally .damaged) (a .n) (a .cause) (a .list .now) (s .pre .row))
 
 pub strike-spec : {M : Type 1} → statement M
 strike-spec =
     tie.close
-    (tie.spec add-start cast-enter cast-enter-2 enter-requires add-t11 add-t12 same-length returns)
+    (tie.spec add-start cast-enter cast-enter-2 enter-requires add-t12 add-t13 same-length returns)

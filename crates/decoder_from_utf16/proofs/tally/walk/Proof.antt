@@ -145,12 +145,13 @@ damaged : (c : tie.After-strike-arg Inv-loop μ-loop)
     let l = p .before .before .before in
     let z = l .before .before .before in
     let n = c .before .before .n2 .given .0 .0 in
-    Next (z .args .room) (z .args .text .now) (begun z) (ran p) n (struck (z .args .room) n (logOf (p .pass .result) (l .loop .list)))
+    let why = c .before .before .n2 .given .0 .1 .0 in
+    Next (z .args .room) (z .args .text .now) (begun z) (ran p) n (struck (z .args .room) n why (logOf (p .pass .result) (l .loop .list)))
 damaged c =
     let g = c .before .before .before .before in
     let p = g .before .before .before in
     let z = p .before .before .before .before .before .before in
-    next-damage (z .args .room) (z .args .text .now) (begun z) (ran p) (g .segment .result) (g .segment .ensures) _ (c .before .before .n2 .given .1)
+    next-damage (z .args .room) (z .args .text .now) (begun z) (ran p) (g .segment .result) (g .segment .ensures) _ _ (c .before .before .n2 .given .1)
 
 strike-requires : tie.Need-strike-requires Inv-loop μ-loop
 strike-requires c κs = damaged c .fits
@@ -165,7 +166,7 @@ loop-again-2 : tie.Need-loop-again-2 Inv-loop μ-loop
 loop-again-2 c =
     let s = c .before .before in
     let l = s .before .before .before .before .before .before .before .before .before .before .before in
-    (s .strike .kept .1 .1 .1 .0 ∙ l .loop .inv .0, damaged (s .before) .walks _ (s .strike .ensures))
+    (s .strike .kept .1 .1 .1 .1 .0 ∙ l .loop .inv .0, damaged (s .before) .walks _ (s .strike .ensures))
 
 enum-told-2 : tie.Need-enum-told-2 Inv-loop μ-loop
 enum-told-2 c = search needs

@@ -19,11 +19,11 @@ cast-enter-2 c = search needs
 enter-requires : tie.Need-enter-requires
 enter-requires c κs = search needs
 
-add-t11 : tie.Need-add-t11
-add-t11 c = search needs
-
 add-t12 : tie.Need-add-t12
 add-t12 c = search needs
+
+add-t13 : tie.Need-add-t13
+add-t13 c = search needs
 
 same-length : tie.Need-same-length
 same-length c = search needs
@@ -34,9 +34,9 @@ returns c =
     let z = e .before .before .before .before in
     let t = z .args .tally in
     ap (counted (t .whole) (t .damaged + z .args .n) (t .count + 1))
-    (e .enter .ensures ∙ entered-is (z .args .room) (t .count) (t .whole + t .damaged) (z .args .n) (z .args .list .now) (z .pre .row))
+    (e .enter .ensures ∙ entered-is (z .args .room) (t .count) (t .whole + t .damaged) (z .args .n) (z .args .cause) (z .args .list .now) (z .pre .row))
 
 pub strike-spec : {M : Type 1} → statement M
 strike-spec =
     tie.close
-    (tie.spec add-start cast-enter cast-enter-2 enter-requires add-t11 add-t12 same-length returns)
+    (tie.spec add-start cast-enter cast-enter-2 enter-requires add-t12 add-t13 same-length returns)
