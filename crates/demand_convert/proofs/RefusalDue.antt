@@ -5,7 +5,7 @@ use Prim.Native.Nat.{ℕ, _≤_}
 use mathlib.Core.Bool.{true, false, true≢false}
 use mathlib.Core.List.{List, [], _∷_}
 use lib.ListN.{length, getD}
-use lib.Dec.{ltb}
+use lib.Dec.{ltb, eqb}
 use borrow.Author.Tests.{ltb-false, eq-eqb, le-leb}
 use Rattle.theory.specs.Table.{Kind}
 use Rattle.theory.specs.Tally.{Entry}
@@ -20,7 +20,10 @@ use Rattle.terms.proofs.FaithfulForms.{Faithful}
 use Rattle.demand_convert.specs.Due.{sameTold, isStrict, dueThere, dueBack}
 
 told-same : (says : List ℕ) → sameTold says says ≡ true
-told-same says = rw (eq-eqb (getD says 0 0) (getD says 0 0) refl, eq-eqb (getD says 1 0) (getD says 1 0) refl, eq-eqb (getD says 2 0) (getD says 2 0) refl)
+told-same says = rw (same 0, same 1, same 2, same 3)
+  where
+    same : (n : ℕ) → eqb (getD says n 0) (getD says n 0) ≡ true
+    same n = eq-eqb (getD says n 0) (getD says n 0) refl
 
 -- damage is refused by number 1 or 9
 abbrev pub Strict : (Entry Kind → List ℕ) → Type 0

@@ -9,7 +9,11 @@ use Rattle.terms.specs.Told.{isGranted}
 
 -- two answers tell the same number and the same values
 abbrev pub sameTold : List ℕ → List ℕ → Bool
-sameTold says check = eqb (getD says 0 0) (getD check 0 0) && eqb (getD says 1 0) (getD check 1 0) && eqb (getD says 2 0) (getD check 2 0)
+sameTold says check =
+    eqb (getD says 0 0) (getD check 0 0)
+    && eqb (getD says 1 0) (getD check 1 0)
+    && eqb (getD says 2 0) (getD check 2 0)
+    && eqb (getD says 3 0) (getD check 3 0)
 
 -- damage was met, or a number that is no scalar value
 abbrev pub isStrict : List ℕ → Bool

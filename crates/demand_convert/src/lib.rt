@@ -28,6 +28,7 @@ fn refused_so(why: Refusal, check: Checked) -> bool
             (why.number() == r.number())
                 & (why.first_value() == r.first_value())
                 & (why.second_value() == r.second_value())
+                & (why.third_value() == r.third_value())
         }
     }
 }
@@ -50,6 +51,7 @@ fn due_there(why: Refusal, check: Checked, long: usize, room: usize, most: usize
         Refusal::Damaged {
             start: _,
             length: _,
+            cause: _,
         } => refused_so(why, check),
         Refusal::NoScalar { position: _ } => refused_so(why, check),
         Refusal::OverLimit => Decoder::LIMIT < long,

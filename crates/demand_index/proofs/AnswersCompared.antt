@@ -30,23 +30,33 @@ places-exactly p q = (
 abbrev value : Refusal → ℕ → ℕ
 value a i = getD (toldRefusal a) i 0
 
-told-values : (a b : Refusal) → value a 0 ≡ value b 0 → value a 1 ≡ value b 1 → value a 2 ≡ value b 2 → a ≡ b
+told-values : (a b : Refusal) → value a 0 ≡ value b 0 → value a 1 ≡ value b 1 → value a 2 ≡ value b 2 → value a 3 ≡ value b 3 → a ≡ b
 unfolding backRefusal
-told-values a b e f g =
-    let h : backRefusal (toldRefusal a) ≡ backRefusal (toldRefusal b) = rw (e, f, g) in
+told-values a b e f g k =
+    let h : backRefusal (toldRefusal a) ≡ backRefusal (toldRefusal b) = rw (e, f, g, k) in
     sym (refusal-back a) ∙ h ∙ refusal-back b
 
-pub refusals-exactly : (a b : Refusal) → (eqb (value a 0) (value b 0) && eqb (value a 1) (value b 1) && eqb (value a 2) (value b 2) ≡ true) ↔ (a ≡ b)
+abbrev alike : Refusal → Refusal → ℕ → Bool
+alike a b i = eqb (value a i) (value b i)
+
+pub refusals-exactly : (a b : Refusal) → (alike a b 0 && alike a b 1 && alike a b 2 && alike a b 3 ≡ true) ↔ (a ≡ b)
 refusals-exactly a b = (yes, no)
   where
-    yes : eqb (value a 0) (value b 0) && eqb (value a 1) (value b 1) && eqb (value a 2) (value b 2) ≡ true → a ≡ b
-    yes e =
-        let l = both (eqb (value a 0) (value b 0) && eqb (value a 1) (value b 1)) (eqb (value a 2) (value b 2)) e in
-        let k = both (eqb (value a 0) (value b 0)) (eqb (value a 1) (value b 1)) (l .0) in
-        told-values a b (eqb-true (value a 0) (value b 0) (k .0)) (eqb-true (value a 1) (value b 1) (k .1)) (eqb-true (value a 2) (value b 2) (l .1))
+    same : (i : ℕ) → alike a b i ≡ true → value a i ≡ value b i
+    same i = eqb-true (value a i) (value b i)
 
-    no : a ≡ b → eqb (value a 0) (value b 0) && eqb (value a 1) (value b 1) && eqb (value a 2) (value b 2) ≡ true
-    no e = rw (e, eq-eqb (value b 0) (value b 0) refl, eq-eqb (value b 1) (value b 1) refl, eq-eqb (value b 2) (value b 2) refl)
+    yes : alike a b 0 && alike a b 1 && alike a b 2 && alike a b 3 ≡ true → a ≡ b
+    yes e =
+        let m = both (alike a b 0 && alike a b 1 && alike a b 2) (alike a b 3) e in
+        let l = both (alike a b 0 && alike a b 1) (alike a b 2) (m .0) in
+        let k = both (alike a b 0) (alike a b 1) (l .0) in
+        told-values a b (same 0 (k .0)) (same 1 (k .1)) (same 2 (l .1)) (same 3 (m .1))
+
+    itself : (i : ℕ) → alike b b i ≡ true
+    itself i = eq-eqb (value b i) (value b i) refl
+
+    no : a ≡ b → alike a b 0 && alike a b 1 && alike a b 2 && alike a b 3 ≡ true
+    no e = rw (e, itself 0, itself 1, itself 2, itself 3)
 
 -- ---- answers by their cases
 

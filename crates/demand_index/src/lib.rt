@@ -29,6 +29,7 @@ fn same_refusals(a: Refusal, b: Refusal) -> bool
     (a.number() == b.number())
         & (a.first_value() == b.first_value())
         & (a.second_value() == b.second_value())
+        & (a.third_value() == b.third_value())
 }
 
 // The same place, or the same refusal.

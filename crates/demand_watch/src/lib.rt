@@ -66,6 +66,7 @@ fn is_due(why: Refusal, long: usize, room: usize, places: usize, row: usize) -> 
         Refusal::Damaged {
             start: _,
             length: _,
+            cause: _,
         } => false,
         Refusal::OverLimit => Decoder::LIMIT < long,
         Refusal::NoRoom { needed } => places < needed,

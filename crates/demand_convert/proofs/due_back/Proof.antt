@@ -31,7 +31,7 @@ abbrev others : List ℕ
 others = 0 ∷ 3 ∷ 4 ∷ 5 ∷ 6 ∷ 7 ∷ 8 ∷ []
 
 other : (why : Refusal) (long room text : ℕ) → OneOf others (tagOf the-refusal.the-type why) → false ≡ dueBack (toldRefusal why) long room text
-other (Damaged start length) long room text k = refl
+other (Damaged start length cause) long room text k = refl
 other OverLimit long room text k = absurd (miss others 1 tt k)
 other (NoRoom needed) long room text k = absurd (miss others 2 tt k)
 other PastEnd long room text k = refl

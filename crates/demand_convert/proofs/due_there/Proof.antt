@@ -53,7 +53,7 @@ others = 3 ∷ 4 ∷ 5 ∷ 6 ∷ 7 ∷ []
 
 other : (why : Refusal) (check : List ℕ) (long room most : ℕ) → OneOf others (tagOf the-refusal.the-type why)
     → false ≡ dueThere (toldRefusal why) check long room most
-other (Damaged start length) check long room most k = absurd (miss others 0 tt k)
+other (Damaged start length cause) check long room most k = absurd (miss others 0 tt k)
 other OverLimit check long room most k = absurd (miss others 1 tt k)
 other (NoRoom needed) check long room most k = absurd (miss others 2 tt k)
 other PastEnd check long room most k = refl

@@ -28,21 +28,30 @@ second-value-requires c κs = search needs
 second-value-requires-2 : tie.Need-second-value-requires-2
 second-value-requires-2 c κs = search needs
 
+third-value-requires : tie.Need-third-value-requires
+third-value-requires c κs = search needs
+
+third-value-requires-2 : tie.Need-third-value-requires-2
+third-value-requires-2 c κs = search needs
+
 returns : tie.Need-returns
 returns c = rw (c .enum-told .given .1, no-zero (c .before .before .args .why))
 
 returns-2 : tie.Need-returns-2
 returns-2 c =
-    let n = c .before .before .before .before in
+    let v = c .before .before in
+    let n = v .before .before .before .before in
     let k = n .before .before .before in
     rw (
       k .check .given .1,
       n .before .number .ensures,
       n .number2 .ensures,
-      c .before .before .before .first-value .ensures,
-      c .before .before .first-value2 .ensures,
-      c .before .second-value .ensures,
-      c .second-value2 .ensures,
+      v .before .before .before .first-value .ensures,
+      v .before .before .first-value2 .ensures,
+      v .before .second-value .ensures,
+      v .second-value2 .ensures,
+      c .before .third-value .ensures,
+      c .third-value2 .ensures,
     )
 
 pub refused-so-spec : {M : Type 1} → statement M
@@ -57,5 +66,7 @@ refused-so-spec =
     first-value-requires-2
     second-value-requires
     second-value-requires-2
+    third-value-requires
+    third-value-requires-2
     returns
     returns-2)

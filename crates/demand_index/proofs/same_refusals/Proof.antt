@@ -1,4 +1,4 @@
--- `same_refusals` meets its contract: its three tests compare the numbers told.
+-- `same_refusals` meets its contract: its four tests compare the numbers told.
 use borrow.Author.Needs.{needs}
 use Rattle.demand_index.proofs.AnswersCompared.{refusals-exactly}
 use Rattle.demand_index.proofs.same_refusals.Statement.{statement}
@@ -22,17 +22,26 @@ second-value-requires c κs = search needs
 second-value-requires-2 : tie.Need-second-value-requires-2
 second-value-requires-2 c κs = search needs
 
+third-value-requires : tie.Need-third-value-requires
+third-value-requires c κs = search needs
+
+third-value-requires-2 : tie.Need-third-value-requires-2
+third-value-requires-2 c κs = search needs
+
 returns : tie.Need-returns
 returns c =
-    let n = c .before .before .before .before in
+    let v = c .before .before in
+    let n = v .before .before .before .before in
     let a = n .before .before .args in
     rw (
       n .before .number .ensures,
       n .number2 .ensures,
-      c .before .before .before .first-value .ensures,
-      c .before .before .first-value2 .ensures,
-      c .before .second-value .ensures,
-      c .second-value2 .ensures,
+      v .before .before .before .first-value .ensures,
+      v .before .before .first-value2 .ensures,
+      v .before .second-value .ensures,
+      v .second-value2 .ensures,
+      c .before .third-value .ensures,
+      c .third-value2 .ensures,
     )
     (refusals-exactly (a .a) (a .b))
 
@@ -46,4 +55,6 @@ same-refusals-spec =
     first-value-requires-2
     second-value-requires
     second-value-requires-2
+    third-value-requires
+    third-value-requires-2
     returns)

@@ -22,7 +22,7 @@ sameState d e =
 -- a feed of so many bytes to the fresh state of a room, with an output of so many places and a list of so many numbers, is refused
 -- 8 for its room, 2 for the text, 7 for the list or 3 for the output, and for nothing else
 abbrev pub isDue : Refusal → ℕ → ℕ → ℕ → ℕ → Bool
-isDue (Damaged start length) long room places row = false
+isDue (Damaged start length cause) long room places row = false
 isDue OverLimit long room places row = ltb limit long
 isDue (NoRoom needed) long room places row = ltb places needed
 isDue PastEnd long room places row = false
