@@ -24,7 +24,7 @@ use Rattle.bridge_numbers.specs.Telling.{saying, saidOf}
 use Rattle.bridge_numbers.specs.declared.telling.Said.{Said}
 
 pub said-refusal : (r : Refusal) {s : Said} → s ≡ saidOf (toldRefusal r) → saying s ≡ toldRefusal r
-said-refusal (Damaged start length) e = ap saying e
+said-refusal (Damaged start length cause) e = ap saying e
 said-refusal OverLimit e = ap saying e
 said-refusal (NoRoom needed) e = ap saying e
 said-refusal PastEnd e = ap saying e
@@ -45,7 +45,7 @@ said-written (the-written.Refused r) e = said-refusal r e
 pub said-first : (a : First) {s : Said} → s ≡ saidOf (toldFirst a) → saying s ≡ toldFirst a
 said-first the-first.Nothing e = ap saying e
 said-first (the-first.Whole n) e = ap saying e
-said-first (the-first.Damage n) e = ap saying e
+said-first (the-first.Damage n cause) e = ap saying e
 said-first (the-first.Begun n) e = ap saying e
 
 pub said-placed : (a : Placed) {s : Said} → s ≡ saidOf (toldPlaced a) → saying s ≡ toldPlaced a

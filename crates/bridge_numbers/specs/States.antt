@@ -98,6 +98,6 @@ abbrev pub offsetOf : ℕ → ℕ → Offset
 offsetOf kind n =
     cond (eqb kind 0) (Byte (record { 0 = n })) (cond (eqb kind 1) (Unit (record { 0 = n })) (cond (eqb kind 2) (Point (record { 0 = n })) (Line (record { 0 = n }))))
 
--- what stands first, by its kind and its size
-abbrev pub firstOf : ℕ → ℕ → First
-firstOf kind n = cond (eqb kind 0) Nothing (cond (eqb kind 1) (Whole n) (cond (eqb kind 2) (Damage n) (Begun n)))
+-- what stands first, by its kind, its size and the cause of damage
+abbrev pub firstOf : ℕ → ℕ → ℕ → First
+firstOf kind n cause = cond (eqb kind 0) Nothing (cond (eqb kind 1) (Whole n) (cond (eqb kind 2) (Damage n cause) (Begun n)))

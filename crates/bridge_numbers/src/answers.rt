@@ -25,9 +25,13 @@ pub fn say_refusal(r: Refusal) -> Said
     ensures { λ s. ⌜ s ≡ saidOf (toldRefusal r) ⌝ }
 {
     match r {
-        Refusal::Damaged { start, length } => Said {
-            numbers: [1, start, length, 0, 0],
-            count: 3,
+        Refusal::Damaged {
+            start,
+            length,
+            cause,
+        } => Said {
+            numbers: [1, start, length, cause as usize, 0],
+            count: 4,
         },
         Refusal::OverLimit => Said {
             numbers: [2, 0, 0, 0, 0],
@@ -90,7 +94,7 @@ pub fn say_written(a: Written) -> Said
     }
 }
 
-// Nothing of the empty text; else 0 whole or 1 damage, its size, and 1 where it is sure.
+// Nothing of the empty text; else 0 whole or 1 damage, its size, 1 where it is sure, and its cause.
 pub fn say_first(a: First) -> Said
     ensures { λ s. ⌜ s ≡ saidOf (toldFirst a) ⌝ }
 {
@@ -101,15 +105,15 @@ pub fn say_first(a: First) -> Said
         },
         First::Whole(n) => Said {
             numbers: [0, n, 1, 0, 0],
-            count: 3,
+            count: 4,
         },
-        First::Damage(n) => Said {
-            numbers: [1, n, 1, 0, 0],
-            count: 3,
+        First::Damage(n, cause) => Said {
+            numbers: [1, n, 1, cause as usize, 0],
+            count: 4,
         },
         First::Begun(n) => Said {
-            numbers: [1, n, 0, 0, 0],
-            count: 3,
+            numbers: [1, n, 0, First::ENDED as usize, 0],
+            count: 4,
         },
     }
 }

@@ -222,9 +222,9 @@ pub fn offset_of(kind: usize, n: usize) -> Offset
     Offset::Line(Lines(n))
 }
 
-// What stands first, of a size: 0 nothing, 1 whole, 2 damage, else begun.
-pub fn first_of(kind: usize, n: usize) -> First
-    ensures { λ r. ⌜ r ≡ firstOf kind n ⌝ }
+// What stands first, of a size: 0 nothing, 1 whole, 2 damage of a cause, else begun.
+pub fn first_of(kind: usize, n: usize, cause: u32) -> First
+    ensures { λ r. ⌜ r ≡ firstOf kind n cause ⌝ }
 {
     if kind == 0 {
         return First::Nothing;
@@ -233,7 +233,7 @@ pub fn first_of(kind: usize, n: usize) -> First
         return First::Whole(n);
     }
     if kind == 2 {
-        return First::Damage(n);
+        return First::Damage(n, cause);
     }
     First::Begun(n)
 }

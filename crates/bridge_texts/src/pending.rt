@@ -67,13 +67,13 @@ pub extern "C" fn bridge_pending_hold(left: &[u8], says: &mut [usize]) -> usize
     )
 }
 
-// utf8_pending::settled_size of what stands first: 0 nothing, 1 whole, 2 damage or 3 begun, and its size.
+// utf8_pending::settled_size of what stands first: 0 nothing, 1 whole, 2 damage or 3 begun, its size, and the cause of damage.
 #[no_mangle]
-pub extern "C" fn bridge_pending_settled_size(kind: usize, n: usize) -> usize
-    ensures { λ r. ⌜ r ≡ cond (ltb kind 4) (settledSize (firstOf kind n)) notCalled ⌝ }
+pub extern "C" fn bridge_pending_settled_size(kind: usize, n: usize, cause: u32) -> usize
+    ensures { λ r. ⌜ r ≡ cond (ltb kind 4) (settledSize (firstOf kind n cause)) notCalled ⌝ }
 {
     if 4 <= kind {
         return bridge_numbers::telling::NOT_CALLED;
     }
-    utf8_pending::settled_size(bridge_numbers::states::first_of(kind, n))
+    utf8_pending::settled_size(bridge_numbers::states::first_of(kind, n, cause))
 }

@@ -26,7 +26,7 @@ pub extern "C" fn bridge_bytes_check(text: &[u8], says: &mut [usize]) -> usize
     )
 }
 
-// moxandril::bytes::segment: no number of the empty text; else 0 whole or 1 damage, its size, and 1 where it is sure.
+// moxandril::bytes::segment: no number of the empty text; else 0 whole or 1 damage, its size, 1 where it is sure, and its cause.
 #[no_mangle]
 pub extern "C" fn bridge_bytes_segment(text: &[u8], says: &mut [usize]) -> usize
     ensures { λ r. ⌜ Tells
@@ -114,7 +114,7 @@ pub extern "C" fn bridge_units_check(text: &[u16], says: &mut [usize]) -> usize
     )
 }
 
-// moxandril::units::segment: no number of the empty text; else 0 whole or 1 damage, its size, and 1 where it is sure.
+// moxandril::units::segment: no number of the empty text; else 0 whole or 1 damage, its size, 1 where it is sure, and its cause.
 #[no_mangle]
 pub extern "C" fn bridge_units_segment(text: &[u16], says: &mut [usize]) -> usize
     ensures { λ r. ⌜ Tells
@@ -162,7 +162,7 @@ pub extern "C" fn bridge_points_check(text: &[u32], says: &mut [usize]) -> usize
     )
 }
 
-// moxandril::points::segment: no number of the empty text; else 0 whole or 1 damage, its size, and 1 where it is sure.
+// moxandril::points::segment: no number of the empty text; else 0 whole or 1 damage, its size, 1 where it is sure, and its cause.
 #[no_mangle]
 pub extern "C" fn bridge_points_segment(text: &[u32], says: &mut [usize]) -> usize
     ensures { λ r. ⌜ Tells

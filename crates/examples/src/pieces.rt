@@ -52,7 +52,7 @@ pub(crate) fn totals(name: &[u8], answer: Total) {
     put(b", list");
 }
 
-// The totals, and the list of damages: start and length of each.
+// The totals, and the list of damages: start, length and cause of each.
 fn finish(state: Decoder, list: &mut [u32]) {
     let mut out = [0u8; 64];
     let answer = moxandril::pieces::finish(state, &mut out, list).answer;
@@ -80,16 +80,16 @@ fn watched() {
 
 // A damage across three pieces.
 fn across() {
-    let mut list = [0u32; 4];
+    let mut list = [0u32; 6];
     let a = feed(start(2), b"\xE2", &mut list);
     let b = feed(a, b"\x82", &mut list);
     let c = feed(b, b"\x41", &mut list);
     finish(c, &mut list);
 }
 
-// One piece, with a list of four numbers.
+// One piece, with a list of six numbers.
 fn once(room: usize, text: &[u8]) {
-    let mut list = [0u32; 4];
+    let mut list = [0u32; 6];
     let state = feed(start(room), text, &mut list);
     finish(state, &mut list);
 }

@@ -20,7 +20,7 @@ fn feed(state: Decoder, piece: &[u8], list: &mut [u32]) -> Decoder {
     fed.state
 }
 
-// The totals, and the list of damages: start and length of each, in bytes.
+// The totals, and the list of damages: start, length and cause of each, in bytes.
 fn finish(state: Decoder, list: &mut [u32]) {
     let mut out = [0u16; 64];
     let answer = moxandril::pieces_to_units::finish(state, &mut out, list).answer;
@@ -30,7 +30,7 @@ fn finish(state: Decoder, list: &mut [u32]) {
 
 // A pair from bytes of two pieces, and a damage across two.
 fn across() {
-    let mut list = [0u32; 4];
+    let mut list = [0u32; 6];
     let a = feed(start(2), b"\xF0\x9F\x9A", &mut list);
     let b = feed(a, b"\x86\xE2\x82", &mut list);
     let c = feed(b, b"\x41", &mut list);

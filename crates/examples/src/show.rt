@@ -123,9 +123,14 @@ pub(crate) fn refused(r: Refusal) {
     put(b" refused");
     number(r.number());
     match r {
-        Refusal::Damaged { start, length } => {
+        Refusal::Damaged {
+            start,
+            length,
+            cause,
+        } => {
             number(start);
             number(length);
+            number(cause as usize);
         }
         Refusal::NoRoom { needed } => number(needed),
         Refusal::Unusable { checkpoint } => number(checkpoint),
@@ -134,14 +139,16 @@ pub(crate) fn refused(r: Refusal) {
     }
 }
 
+// What stands first: its size, and why it is damaged.
 pub(crate) fn first(f: First) {
     match f {
         First::Nothing => {}
         First::Whole(_) => put(b" whole"),
-        First::Damage(_) => put(b" damage"),
+        First::Damage(_, _) => put(b" damage"),
         First::Begun(_) => put(b" begun"),
     }
     number(f.size());
+    number(f.cause() as usize);
 }
 
 // A code point and its size.

@@ -20,7 +20,7 @@ fn feed(state: UnitDecoder, piece: &[u16], list: &mut [u32]) -> UnitDecoder {
     fed.state
 }
 
-// The totals, and the list of damages: start and length of each, in units.
+// The totals, and the list of damages: start, length and cause of each, in units.
 fn finish(state: UnitDecoder, list: &mut [u32]) {
     let mut out = [0u8; 64];
     let answer = moxandril::unit_pieces::finish(state, &mut out, list).answer;
@@ -30,7 +30,7 @@ fn finish(state: UnitDecoder, list: &mut [u32]) {
 
 // A first half, and another that has its second half.
 fn across() {
-    let mut list = [0u32; 4];
+    let mut list = [0u32; 6];
     let a = feed(start(2), &[0xD83D], &mut list);
     let b = feed(a, &[0xD83D, 0xDE86], &mut list);
     finish(b, &mut list);
@@ -38,7 +38,7 @@ fn across() {
 
 // A half that ends the text.
 fn ended() {
-    let mut list = [0u32; 4];
+    let mut list = [0u32; 6];
     let state = feed(start(2), &[0x41, 0xD83D], &mut list);
     finish(state, &mut list);
 }

@@ -100,7 +100,7 @@ fn least(a: usize, b: usize) -> usize
     b
 }
 
-// The stored entries, a line for each.
+// The stored entries, a line for each: start, length and cause.
 fn entries(list: &[u32], count: usize) {
     let n = least(count, list.len() / Decoder::ENTRY);
     let mut i: usize = 0;
@@ -108,6 +108,7 @@ fn entries(list: &[u32], count: usize) {
         put(b"damage");
         number(wide(list[Decoder::ENTRY * i]));
         number(wide(list[Decoder::ENTRY * i + 1]));
+        number(wide(list[Decoder::ENTRY * i + 2]));
         put(b"\n");
         i += 1;
     }
@@ -144,7 +145,7 @@ fn totals(state: Decoder, list: &mut [u32]) {
 }
 
 fn main() {
-    let mut list = [0u32; 64];
+    let mut list = [0u32; 96];
     let mut piece = io::large_buffer();
     let mut out = most_places();
     let taken = take_input(decoder::start(32).state, &mut piece, &mut out, &mut list);

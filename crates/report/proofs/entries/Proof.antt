@@ -58,6 +58,24 @@ wide-requires-2 c κs = search needs
 number-requires-2 : tie.Need-number-requires-2 Inv-loop μ-loop
 number-requires-2 c κs = search needs
 
+mul-wide-5 : tie.Need-mul-wide-5 Inv-loop μ-loop
+mul-wide-5 c = search needs
+
+add-wide-2 : tie.Need-add-wide-2 Inv-loop μ-loop
+add-wide-2 c = search needs
+
+mul-wide-6 : tie.Need-mul-wide-6 Inv-loop μ-loop
+mul-wide-6 c = search needs
+
+shared-slice-read-wide-3 : tie.Need-shared-slice-read-wide-3 Inv-loop μ-loop
+shared-slice-read-wide-3 c = search needs
+
+wide-requires-3 : tie.Need-wide-requires-3 Inv-loop μ-loop
+wide-requires-3 c κs = search needs
+
+number-requires-3 : tie.Need-number-requires-3 Inv-loop μ-loop
+number-requires-3 c κs = search needs
+
 slice-aggregate-put-2 : tie.Need-slice-aggregate-put-2 Inv-loop μ-loop
 slice-aggregate-put-2 c = search needs
 
@@ -97,6 +115,12 @@ entries-spec =
     shared-slice-read-wide-2
     wide-requires-2
     number-requires-2
+    mul-wide-5
+    add-wide-2
+    mul-wide-6
+    shared-slice-read-wide-3
+    wide-requires-3
+    number-requires-3
     slice-aggregate-put-2
     put-requires-2
     add-i

@@ -12,8 +12,14 @@ enum-known-a c = search needs
 enum-known-a-2 : tie.Need-enum-known-a-2
 enum-known-a-2 c = search needs
 
+cast-t9 : tie.Need-cast-t9
+cast-t9 c = search needs
+
 enum-known-a-3 : tie.Need-enum-known-a-3
 enum-known-a-3 c = search needs
+
+cast-t11 : tie.Need-cast-t11
+cast-t11 c = search needs
 
 returns : tie.Need-returns
 returns c = rw (c .enum-told .given .1)
@@ -34,7 +40,9 @@ say-first-spec =
     enum-told
     enum-known-a
     enum-known-a-2
+    cast-t9
     enum-known-a-3
+    cast-t11
     returns
     returns-2
     returns-3

@@ -6,6 +6,9 @@ use Rattle.bridge_numbers.proofs.answers.say_refusal.Tie as tie
 enum-known-r : tie.Need-enum-known-r
 enum-known-r c = search needs
 
+cast-t9 : tie.Need-cast-t9
+cast-t9 c = search needs
+
 enum-told : tie.Need-enum-told
 enum-told c = search needs
 
@@ -62,6 +65,7 @@ say-refusal-spec =
     tie.close
     (tie.spec
     enum-known-r
+    cast-t9
     enum-told
     enum-known-r-2
     enum-told-2
