@@ -64,23 +64,25 @@ writers! {
 
 /// How many damages the list of a repair in pieces has room for.
 pub const ROOM: usize = 32;
+/// How many numbers the list is: start, length and cause of each.
+const LIST: usize = 3 * ROOM;
 
 /// A decoder: a text is fed in pieces of so many elements, and finished; how many places were written.
 macro_rules! decoders {
     ($($name:ident: $start:ident, $feed:ident, $finish:ident, $state:literal, $from:ty => $to:ty;)*) => {$(
         pub fn $name(text: &[$from], size: usize, out: &mut [$to]) -> usize {
-            let (mut state, mut list, mut says) = ([0usize; $state], [0u32; 2 * ROOM], [0usize; 8]);
+            let (mut state, mut list, mut says) = ([0usize; $state], [0u32; LIST], [0usize; 8]);
             let (p, l, mut done) = (state.as_mut_ptr(), list.as_mut_ptr(), 0);
             unsafe { $start(ROOM, p, $state, says.as_mut_ptr(), 8) };
             for piece in text.chunks(size) {
                 let (t, n, out) = (piece.as_ptr(), piece.len(), &mut out[done..]);
                 let (o, k, s) = (out.as_mut_ptr(), out.len(), says.as_mut_ptr());
-                unsafe { $feed(p, $state, t, n, o, k, l, 2 * ROOM, s, 8) };
+                unsafe { $feed(p, $state, t, n, o, k, l, LIST, s, 8) };
                 done += says[1];
             }
             let out = &mut out[done..];
             let (o, k, s) = (out.as_mut_ptr(), out.len(), says.as_mut_ptr());
-            unsafe { $finish(p, $state, o, k, l, 2 * ROOM, s, 8) };
+            unsafe { $finish(p, $state, o, k, l, LIST, s, 8) };
             done + says[1]
         }
     )*};

@@ -6,8 +6,8 @@ use common::model::forms::{check, converted, first, point, segments, Form};
 use common::model::index::{built, lookup, need, Builder};
 use common::model::pending::Piece;
 use common::model::places::{cut, places, plain};
-use common::model::{LIMIT, ROOM};
-use common::{damages, repaired};
+use common::model::{ENTRY, LIMIT, ROOM};
+use common::{damages, repaired, Damage};
 
 #[test]
 fn segments_and_points() {
@@ -35,8 +35,83 @@ fn segments_and_points() {
         assert_eq!(damages(text).len(), count, "{text:02X?}");
         assert_eq!(segments(text).len(), count, "{text:02X?}");
     }
-    assert_eq!(check(b"\xE2\x82\x41".as_slice()), [1, 0, 2]);
-    assert_eq!(first(b"\xF0\x9F\x9A".as_slice()), [1, 3, 0]);
+    assert_eq!(check(b"\xE2\x82\x41".as_slice()), [1, 0, 2, 3]);
+    assert_eq!(first(b"\xE2\x82\x41".as_slice()), [1, 2, 1, 3]);
+    assert_eq!(first(b"\xF0\x9F\x9A".as_slice()), [1, 3, 0, 4]);
+    assert_eq!(check(b"\xF0\x9F\x9A".as_slice()), [1, 0, 3, 4]);
+    assert_eq!(first(b"\x41\x80".as_slice()), [0, 1, 1, 0]);
+    assert_eq!(check(b"\x41\x80\x42".as_slice()), [1, 1, 1, 1]);
+}
+
+/// The damages by the reader of a form, beside the byte reader's.
+fn told<T: Form>(text: &[T]) -> Vec<Damage> {
+    let read = segments(text).into_iter();
+    read.filter(|(_, s)| s.point.is_none())
+        .map(|(start, s)| (start, s.length, s.cause))
+        .collect()
+}
+
+#[test]
+fn causes_of_bytes() {
+    let examples: [(&[u8], &[Damage]); 14] = [
+        (b"\x41\x80\x42", &[(1, 1, 1)]),
+        (b"\xE2\x82\x41", &[(0, 2, 3)]),
+        (b"\xE2\x82\xC3\xA9", &[(0, 2, 3)]),
+        (b"\xF0\x9F\x9A", &[(0, 3, 4)]),
+        (b"\x41\xE2", &[(1, 1, 4)]),
+        (b"\x41\xBF", &[(1, 1, 1)]),
+        (b"\x41\xFF", &[(1, 1, 2)]),
+        (
+            b"\xF4\x90\x80\x80",
+            &[(0, 1, 3), (1, 1, 1), (2, 1, 1), (3, 1, 1)],
+        ),
+        (
+            b"\xF0\x8F\xBF\xBF",
+            &[(0, 1, 3), (1, 1, 1), (2, 1, 1), (3, 1, 1)],
+        ),
+        (b"\xC0\x80", &[(0, 1, 2), (1, 1, 1)]),
+        (b"\xED\xA0\x80", &[(0, 1, 3), (1, 1, 1), (2, 1, 1)]),
+        (b"\xE0\x9F\xBF", &[(0, 1, 3), (1, 1, 1), (2, 1, 1)]),
+        (
+            b"\x61\xF1\x80\x80\xE1\x80\xC2\x62\x80\x63\x80\xBF\x64",
+            &[
+                (1, 3, 3),
+                (4, 2, 3),
+                (6, 1, 3),
+                (8, 1, 1),
+                (10, 1, 1),
+                (11, 1, 1),
+            ],
+        ),
+        (
+            b"\xC1\xF5\xC2\xC2",
+            &[(0, 1, 2), (1, 1, 2), (2, 1, 3), (3, 1, 4)],
+        ),
+    ];
+    for (text, found) in examples {
+        assert_eq!(damages(text), found, "{text:02X?}");
+        assert_eq!(told(text), found, "{text:02X?}");
+    }
+}
+
+#[test]
+fn causes_of_units_and_code_points() {
+    let examples: [(&[u16], &[Damage]); 5] = [
+        (&[0xD83D, 0xD83D, 0xDE86], &[(0, 1, 3)]),
+        (&[0xDE86, 0xD83D], &[(0, 1, 1), (1, 1, 4)]),
+        (&[0xD83D, 0x41, 0xDE86], &[(0, 1, 3), (2, 1, 1)]),
+        (&[0xDBFF, 0xDBFF], &[(0, 1, 3), (1, 1, 4)]),
+        (&[0xD7FF, 0xD800, 0xDC00, 0xE000], &[]),
+    ];
+    for (text, found) in examples {
+        assert_eq!(told(text), found, "{text:04X?}");
+    }
+    assert_eq!(check([0x41_u16, 0xD83D, 0x41].as_slice()), [1, 1, 1, 3]);
+    assert_eq!(first([0xD83D_u16].as_slice()), [1, 1, 0, 4]);
+    assert_eq!(first([0xDE86_u16].as_slice()), [1, 1, 1, 1]);
+    assert_eq!(first([0x110000_u32].as_slice()), [1, 1, 1, 2]);
+    assert_eq!(first([0x10FFFF_u32].as_slice()), [0, 1, 1, 0]);
+    assert_eq!(check([0x41_u32, 0xD800].as_slice()), [9, 1]);
 }
 
 #[test]
@@ -74,22 +149,47 @@ fn pieces() {
         ]
     );
     assert_eq!(ended.told, [0, 0, 1, 2, 1]);
-    let five = Decoder::fresh(2).feed::<u8>(&[0x80; 5], 15, 4);
-    assert_eq!((five.entries, five.state.count), (vec![0, 1, 1, 1], 5));
+    assert_eq!(ended.entries, []);
+    let five = Decoder::fresh(2).feed::<u8>(&[0x80; 5], 15, 6);
+    assert_eq!(five.entries, [0, 1, 1, 1, 1, 1]);
+    assert_eq!((five.told, five.state.count), (vec![0, 15], 5));
+    let short = Decoder::fresh(2).feed::<u8>(&[0x80; 5], 15, 5);
+    assert_eq!(short.told, [7], "shorter than three times the room");
+}
+
+/// What stops a sequence may be pending itself: the cause is that in the joined text, and 4 comes from the finish alone.
+#[test]
+fn causes_in_pieces() {
+    let cut: [&[&[u8]]; 4] = [
+        &[b"\xE2\x82\xC3"],
+        &[b"\xE2\x82", b"\xC3"],
+        &[b"\xE2", b"", b"\x82", b"\xC3", b""],
+        &[b"\xE2", b"\x82\xC3"],
+    ];
+    for pieces in cut {
+        let (written, list, totals) = fed::<u8, u16>(pieces);
+        assert_eq!(written.concat(), [0xFFFD, 0xFFFD], "{pieces:02X?}");
+        assert_eq!(list, [0, 2, 3, 2, 1, 4], "{pieces:02X?}");
+        assert_eq!(totals, [0, 3, 2], "{pieces:02X?}");
+    }
+    let (_, list, _) = fed::<u16, u8>(&[&[0xD83D], &[0xD83D], &[], &[0x41, 0xD83D]]);
+    assert_eq!(list, [0, 1, 3, 1, 1, 3, 3, 1, 4]);
+    let (_, list, _) = fed::<u16, u8>(&[&[0xD83D, 0xD83D]]);
+    assert_eq!(list, [0, 1, 3, 1, 1, 4]);
 }
 
 /// What each piece writes and what the finish then does, the entries, and the totals; with room for four entries.
 fn fed<T: Piece, U: Form>(pieces: &[&[T]]) -> (Vec<Vec<U>>, Vec<u32>, [usize; 3]) {
     let (mut state, mut written, mut list) = (State::fresh(4), Vec::new(), Vec::new());
     for piece in pieces {
-        let fed = state.feed(piece, 99, 8);
+        let fed = state.feed(piece, 99, 4 * ENTRY);
         assert_eq!(fed.told, [0, fed.output.len()]);
         written.push(fed.output);
         list.extend(fed.entries);
         state = fed.state;
         assert!(state.is_sound(), "{state:?}");
     }
-    let ended = state.finish(99, 8);
+    let ended = state.finish(99, 4 * ENTRY);
     assert_eq!(ended.state, State::fresh(4));
     written.push(ended.output);
     list.extend(ended.entries);
@@ -102,28 +202,36 @@ fn units_in_pieces() {
     let (written, list, totals) = fed::<u16, u8>(&[&[0xD83D], &[0xD83D, 0xDE86]]);
     assert_eq!(written.concat(), "\u{FFFD}\u{1F686}".as_bytes());
     assert_eq!(written[0], []);
-    assert_eq!((list, totals), (vec![0, 1], [2, 1, 1]));
+    assert_eq!((list, totals), (vec![0, 1, 3], [2, 1, 1]));
 
     let (written, list, totals) = fed::<u16, u8>(&[&[0x20AC, 0xD83D], &[], &[0xDE86, 0xDBFF]]);
     let expected = ["\u{20AC}", "", "\u{1F686}", "\u{FFFD}"];
     assert_eq!(written, expected.map(|s| s.as_bytes()));
-    assert_eq!((list, totals), (vec![3, 1], [3, 1, 1]), "starts in units");
+    assert_eq!(
+        (list, totals),
+        (vec![3, 1, 4], [3, 1, 1]),
+        "starts in units"
+    );
 
     let (written, list, totals) = fed::<u16, u8>(&[&[0xDE86], &[0xD83D], &[0x41]]);
     let expected = ["\u{FFFD}", "", "\u{FFFD}A", ""];
     assert_eq!(written, expected.map(|s| s.as_bytes()));
-    assert_eq!((list, totals), (vec![0, 1, 1, 1], [1, 2, 2]));
+    assert_eq!((list, totals), (vec![0, 1, 1, 1, 1, 3], [1, 2, 2]));
 }
 
 #[test]
 fn bytes_in_pieces_as_units() {
     let (written, list, totals) = fed::<u8, u16>(&[b"\xE2", b"\x82", b"\x41"]);
     assert_eq!(written, [vec![], vec![], vec![0xFFFD, 0x41], vec![]]);
-    assert_eq!((list, totals), (vec![0, 2], [1, 2, 1]), "starts in bytes");
+    assert_eq!(
+        (list, totals),
+        (vec![0, 2, 3], [1, 2, 1]),
+        "starts in bytes"
+    );
 
     let (written, list, totals) = fed::<u8, u16>(&[b"\xF0\x9F", b"\x9A\x86\xF0\x9F\x9A"]);
     assert_eq!(written, [vec![], vec![0xD83D, 0xDE86], vec![0xFFFD]]);
-    assert_eq!((list, totals), (vec![4, 3], [4, 3, 1]));
+    assert_eq!((list, totals), (vec![4, 3, 4], [4, 3, 1]));
 }
 
 /// A sound state, the tests for 8 one by one, and then the other refusals in their order.
@@ -158,11 +266,13 @@ fn states_of_units() {
     }
     let full = UnitDecoder::of(&[0, 0, LIMIT - 1, LIMIT - 1, 0, 0, 3]);
     assert_eq!(full.feed::<u8>(&[0x41, 0x41], 0, 0).told, [2]);
-    assert_eq!(full.feed::<u8>(&[0x41], 0, 5).told, [7]);
-    assert_eq!(full.feed::<u8>(&[0x41], 0, 6).told, [3, 1]);
-    assert_eq!(full.feed::<u8>(&[0x41], 1, 6).told, [0, 1]);
-    assert_eq!(state.finish::<u8>(2, 6).told, [3, 3]);
-    assert_eq!(state.finish::<u8>(3, 6).told, [0, 3, 7, 3, 3]);
+    assert_eq!(full.feed::<u8>(&[0x41], 0, 6).told, [7]);
+    assert_eq!(full.feed::<u8>(&[0x41], 0, 8).told, [7]);
+    assert_eq!(full.feed::<u8>(&[0x41], 0, 9).told, [3, 1]);
+    assert_eq!(full.feed::<u8>(&[0x41], 1, 9).told, [0, 1]);
+    assert_eq!(state.finish::<u8>(2, 9).told, [3, 3]);
+    assert_eq!(state.finish::<u8>(3, 9).told, [0, 3, 7, 3, 3]);
+    assert_eq!(state.finish::<u8>(3, 9).entries, [9, 1, 4]);
     assert_eq!(start(ROOM + 1), (vec![7], UnitDecoder::fresh(0)));
     assert_eq!(start(ROOM), (vec![0], UnitDecoder::fresh(ROOM)));
 }

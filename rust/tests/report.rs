@@ -57,7 +57,7 @@ fn expected(text: &[u8]) -> String {
     let lines: String = found
         .iter()
         .take(32)
-        .map(|(start, length)| format!("damage {start} {length}\n"))
+        .map(|(start, length, cause)| format!("damage {start} {length} {cause}\n"))
         .collect();
     format!(
         "{lines}total {} whole {} damaged {damaged}\n",
@@ -74,10 +74,17 @@ fn compare(text: &[u8], cuts: &[usize]) {
 fn fixed_texts() {
     assert_eq!(
         printed(b"\x41\x80\x42", &[]),
-        "damage 1 1\ntotal 1 whole 2 damaged 1\n"
+        "damage 1 1 1\ntotal 1 whole 2 damaged 1\n"
     );
+    for cuts in [&[][..], &[4], &[4, 5, 7]] {
+        assert_eq!(
+            printed(b"\x41\x80\xC0\xE2\x82\x41\xF0\x9F", cuts),
+            "damage 1 1 1\ndamage 2 1 2\ndamage 3 2 3\ndamage 6 2 4\ntotal 4 whole 2 damaged 6\n"
+        );
+    }
     compare(b"", &[]);
     compare(b"\xE2\x82\x41", &[1, 2]);
+    compare(b"\xE2\x82\xC3", &[1, 2]);
     compare(
         b"text that ends in the middle of a character \xF0\x9F\x9A",
         &[45, 46],

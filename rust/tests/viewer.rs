@@ -12,7 +12,7 @@ fn compare(text: &[u8]) {
     let said = check(text);
     assert_eq!(
         said,
-        first.map_or(Ok(()), |(start, length)| Err(Refusal::Damaged {
+        first.map_or(Ok(()), |(start, length, _)| Err(Refusal::Damaged {
             start,
             length
         })),

@@ -128,7 +128,7 @@ extern "C" {
     fn bridge_pending_is_tail(held: *const usize, h: usize, n: usize) -> usize;
     fn bridge_pending_seam_of(held: *const usize, h: usize, n: usize, piece: *const u8, p: usize, says: *mut usize, m: usize) -> usize;
     fn bridge_pending_hold(text: *const u8, n: usize, says: *mut usize, m: usize) -> usize;
-    fn bridge_pending_settled_size(kind: usize, n: usize) -> usize;
+    fn bridge_pending_settled_size(kind: usize, n: usize, cause: u32) -> usize;
 }
 
 /// The lookups by measure.
@@ -442,8 +442,8 @@ pub fn hold(left: &[u8]) -> Told {
     reads(bridge_pending_hold, left, 8)
 }
 
-pub fn settled_size(kind: usize, n: usize) -> usize {
-    unsafe { bridge_pending_settled_size(kind, n) }
+pub fn settled_size(kind: usize, n: usize, cause: u32) -> usize {
+    unsafe { bridge_pending_settled_size(kind, n, cause) }
 }
 
 /// Calls with lent slices that are too short to be a state, or with too few places to tell in: what each replies.

@@ -35,7 +35,8 @@ fn of_ranges() -> Table {
     table
 }
 
-/// What is told of the segment that stands first, by the classes of its bytes: how many later ones each class wants, and which next.
+/// What is told of the segment that stands first, by the classes of its bytes: how many later ones each class wants, and which next. A first
+/// byte that begins no sequence has cause 1 where its number is 1, 2 or 3, and cause 2 where it is any other.
 fn first_by(text: &[u8], table: &Table) -> Told {
     let classes: Vec<u8> = text.iter().map(|&b| table[b as usize]).collect();
     let wanted: &[&[u8]] = match classes.first() {
@@ -48,16 +49,17 @@ fn first_by(text: &[u8], table: &Table) -> Told {
         Some(9) => &[&[2, 3], &[1, 2, 3], &[1, 2, 3]],
         Some(10) => &[&[1, 2, 3], &[1, 2, 3], &[1, 2, 3]],
         Some(11) => &[&[1], &[1, 2, 3], &[1, 2, 3]],
-        Some(_) => return vec![1, 1, 1],
+        Some(1..=3) => return vec![1, 1, 1, 1],
+        Some(_) => return vec![1, 1, 1, 2],
     };
     for (n, next) in wanted.iter().enumerate() {
         match classes.get(n + 1) {
-            None => return vec![1, n + 1, 0],
-            Some(class) if !next.contains(class) => return vec![1, n + 1, 1],
+            None => return vec![1, n + 1, 0, 4],
+            Some(class) if !next.contains(class) => return vec![1, n + 1, 1, 3],
             Some(_) => {}
         }
     }
-    vec![0, wanted.len() + 1, 1]
+    vec![0, wanted.len() + 1, 1, 0]
 }
 
 /// The library's own table reads as the calls without one do.
@@ -72,20 +74,34 @@ fn by_ranges(run: &mut Run, text: &[u8], table: &Table) {
     run.cases += 2;
 }
 
+/// A table that need not have to do with the ranges.
+fn by_any(run: &mut Run, text: &[u8], table: &Table) {
+    let said = by(bridge_bytes_segment_by, text, table);
+    assert_eq!(said, first_by(text, table), "{text:02X?} by {table:?}");
+    run.cases += 1;
+}
+
+/// Each of all numbers for a first byte, behind which stands each of those up to 16, or nothing.
+fn each_number(run: &mut Run) {
+    for (number, next) in (0..=255).flat_map(|number| (0..=16).map(move |next| (number, next))) {
+        let mut table = [next; 256];
+        table[0x41] = number;
+        for text in [b"A".as_slice(), b"AB", b"ABC", b"ABCD", b"ABCDE"] {
+            by_any(run, text, &table);
+        }
+    }
+}
+
 pub fn all(run: &mut Run) {
     let table = of_ranges();
     every_short(&INTERESTING, 3).for_each(|text| by_ranges(run, &text, &table));
-    for _ in 0..run.rounds(200_000) {
+    each_number(run);
+    for round in 0..run.rounds(200_000) {
         let length = run.random.length() % 6;
         let text = run.random.mixture(length);
         by_ranges(run, &text, &table);
-        let false_one: Table = std::array::from_fn(|_| (run.random.next() % 16) as u8);
-        let said = by(bridge_bytes_segment_by, &text, &false_one);
-        assert_eq!(
-            said,
-            first_by(&text, &false_one),
-            "{text:02X?} by {false_one:?}"
-        );
-        run.cases += 1;
+        let numbers = if round % 8 == 0 { 256 } else { 16 };
+        let any = std::array::from_fn(|_| (run.random.next() % numbers) as u8);
+        by_any(run, &text, &any);
     }
 }

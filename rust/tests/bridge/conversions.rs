@@ -4,6 +4,7 @@ use crate::common::model::forms::{self, Form};
 use crate::common::model::Told;
 use crate::common::texts::{every_short, CODES, UNITS};
 use crate::common::INTERESTING;
+use crate::courses::Tested;
 use crate::Run;
 use std::fmt::Debug;
 
@@ -62,8 +63,15 @@ fn std_agrees_on_bytes(text: &[u8]) {
         .into_iter()
         .eq(lossy.chars().map(u32::from)));
     if let Err(e) = std::str::from_utf8(text) {
-        let length = e.error_len().unwrap_or(text.len() - e.valid_up_to());
-        assert_eq!(forms::check(text), [1, e.valid_up_to(), length]);
+        let start = e.valid_up_to();
+        let length = e.error_len().unwrap_or(text.len() - start);
+        let cause = match (e.error_len(), text[start]) {
+            (None, _) => 4,
+            (Some(_), 0x80..=0xBF) => 1,
+            (Some(_), 0xC0 | 0xC1 | 0xF5..=0xFF) => 2,
+            (Some(_), _) => 3,
+        };
+        assert_eq!(forms::check(text), [1, start, length, cause]);
     }
 }
 
@@ -71,8 +79,7 @@ fn std_agrees_on_units(text: &[u16]) {
     let read = char::decode_utf16(text.iter().copied()).map(|c| c.unwrap_or('\u{FFFD}'));
     let lossy: String = read.collect();
     assert_eq!(forms::converted::<u16, u8>(text), lossy.as_bytes());
-    let strict: Result<Vec<char>, _> = char::decode_utf16(text.iter().copied()).collect();
-    assert_eq!(forms::check(text) == [0], strict.is_ok());
+    assert_eq!(forms::check(text), u16::strict(text));
 }
 
 pub fn of_bytes(run: &mut Run, text: &[u8]) {

@@ -3,7 +3,8 @@ use crate::calls::{filled, inner, Decoding, MARGIN};
 use crate::common::model::decoder::{most, start, Fed, State};
 use crate::common::model::forms::{converted, Form};
 use crate::common::model::pending::Piece;
-use crate::common::{damages, Random};
+use crate::common::model::{Told, ENTRY};
+use crate::common::{damages, Damage, Random};
 use crate::Run;
 
 /// What a text in pieces is made of: random texts of it, and what others than the model say of one.
@@ -12,8 +13,16 @@ pub trait Tested: Piece {
     fn text(random: &mut Random, length: usize) -> Vec<Self>;
     /// Rust's own repair.
     fn lossy(text: &[Self]) -> String;
-    /// The damages: start and length of each.
-    fn damages(text: &[Self]) -> Vec<(usize, usize)>;
+    /// The damages, with their causes in this text.
+    fn damages(text: &[Self]) -> Vec<Damage>;
+
+    /// What strict reading tells: the first damage with its cause, or none.
+    fn strict(text: &[Self]) -> Told {
+        match Self::damages(text)[..] {
+            [] => vec![0],
+            [(start, length, cause), ..] => vec![1, start, length, cause],
+        }
+    }
 }
 
 impl Tested for u8 {
@@ -25,7 +34,7 @@ impl Tested for u8 {
         String::from_utf8_lossy(text).into_owned()
     }
 
-    fn damages(text: &[u8]) -> Vec<(usize, usize)> {
+    fn damages(text: &[u8]) -> Vec<Damage> {
         damages(text)
     }
 }
@@ -39,12 +48,18 @@ impl Tested for u16 {
         String::from_utf16_lossy(text)
     }
 
-    /// By Rust's own reader of pairs.
-    fn damages(text: &[u16]) -> Vec<(usize, usize)> {
+    /// By Rust's own reader of pairs: a half that it calls unpaired is a second one, or is the last unit, or another unit stops it.
+    fn damages(text: &[u16]) -> Vec<Damage> {
         let (mut found, mut at) = (Vec::new(), 0);
         for read in char::decode_utf16(text.iter().copied()) {
-            if read.is_err() {
-                found.push((at, 1));
+            if let Err(half) = &read {
+                let is_second = half.unpaired_surrogate() >= 0xDC00;
+                let cause = match (is_second, at + 1 == text.len()) {
+                    (true, _) => 1,
+                    (false, false) => 3,
+                    (false, true) => 4,
+                };
+                found.push((at, 1, cause));
             }
             at += read.map_or(1, char::len_utf16);
         }
@@ -117,7 +132,7 @@ impl<T: Piece, U: Form> Tried<'_, T, U> {
         expected[MARGIN..MARGIN + fed.output.len()].copy_from_slice(&fed.output);
         assert!(out == expected, "output {}", about());
         if !fed.entries.is_empty() {
-            let at = MARGIN + 2 * fed.from_entry;
+            let at = MARGIN + ENTRY * fed.from_entry;
             entered[at..at + fed.entries.len()].copy_from_slice(&fed.entries);
         }
         assert!(*list == entered, "list {}", about());
@@ -130,10 +145,10 @@ where
     T: Tested,
     U: Form,
 {
-    let room = course.room;
+    let (room, long) = (course.room, ENTRY * course.room);
     let (told, mut state) = decoding.start(room, 9);
     assert_eq!((told, state), start(room), "{}", course.at("start"));
-    let mut list = filled::<u32>(2 * room + 1);
+    let mut list = filled::<u32>(long + 1);
     let (fresh_list, mut output) = (list.clone(), Vec::<U>::new());
     let mut totals = vec![];
     for (i, piece) in course.pieces().into_iter().enumerate() {
@@ -142,7 +157,7 @@ where
             state,
             piece,
             out: usize::MAX,
-            list: 2 * room,
+            list: long,
         };
         let fed = roomy.model();
         let need = fed.output.len();
@@ -158,14 +173,16 @@ where
             })
         };
         if need > 0 {
-            trial(need - 1, 2 * room, &state.refuse(vec![3, need]));
+            trial(need - 1, long, &state.refuse(vec![3, need]));
         }
-        if room > 0 && i % 4 == 0 {
-            trial(need / 2, 2 * room - 1, &state.refuse(vec![7]));
+        if room > 0 && i % 2 == 0 {
+            // one number short, or one for each entry
+            let short = [long - 1, 2 * room][i / 2 % 2];
+            trial(need / 2, short, &state.refuse(vec![7]));
         }
         let enough = most::<U>(piece.map_or(0, <[T]>::len));
         let places = [need, enough, need + 1][(i + room) % 3];
-        trial(places, 2 * room + i % 2, &fed);
+        trial(places, long + i % 2, &fed);
         output.extend(&fed.output);
         state = fed.state;
         totals = fed.told;
@@ -199,9 +216,10 @@ fn whole<T, U>(
         "{}",
         course.at("joined output")
     );
-    for (i, (start, length)) in found.into_iter().take(course.room).enumerate() {
-        fresh[MARGIN + 2 * i] = start as u32;
-        fresh[MARGIN + 2 * i + 1] = length as u32;
+    for (i, (start, length, cause)) in found.into_iter().take(course.room).enumerate() {
+        fresh[MARGIN + 3 * i] = start as u32;
+        fresh[MARGIN + 3 * i + 1] = length as u32;
+        fresh[MARGIN + 3 * i + 2] = cause as u32;
     }
     assert!(list == fresh, "{}", course.at("joined list"));
 }

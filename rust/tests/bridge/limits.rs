@@ -5,7 +5,7 @@ use crate::common::model::forms::Form;
 use crate::common::model::index::{lookup, need, Builder};
 use crate::common::model::pending::{hold, Piece};
 use crate::common::model::places::LINES;
-use crate::common::model::{LIMIT, ROOM};
+use crate::common::model::{Told, LIMIT, ROOM};
 use crate::courses::Tried;
 use crate::Run;
 use std::fmt::Debug;
@@ -36,21 +36,28 @@ where
     run.cases += 3;
 }
 
-/// A check at the limit, one over, and with damage at the last place.
-fn checking<T: Copy>(run: &mut Run, call: Reads<T>, good: T, bad: T, refusal: &[usize]) {
+/// A check at the limit, one over, and with damages at the last place.
+fn checking<T: Copy>(run: &mut Run, call: Reads<T>, good: T, bad: &[(T, Told)]) {
     let mut text = vec![good; LIMIT + 1];
     assert_eq!(reads(call, &text, 8), [2]);
     assert_eq!(reads(call, &text[..LIMIT], 8), [0]);
-    text[LIMIT - 1] = bad;
-    assert_eq!(reads(call, &text, 8), [2]);
-    assert_eq!(reads(call, &text[..LIMIT], 8), refusal);
-    run.cases += 4;
+    for (bad, refusal) in bad {
+        text[LIMIT - 1] = *bad;
+        assert_eq!(reads(call, &text, 8), [2]);
+        assert_eq!(reads(call, &text[..LIMIT], 8), *refusal);
+        run.cases += 2;
+    }
+    run.cases += 2;
 }
 
 pub fn conversions(run: &mut Run) {
-    checking(run, bridge_bytes_check, b'A', 0x80, &[1, LIMIT - 1, 1]);
-    checking(run, bridge_units_check, 0x4E00, 0xD800, &[1, LIMIT - 1, 1]);
-    checking(run, bridge_points_check, 0x1F686, 0xD800, &[9, LIMIT - 1]);
+    let last = |cause| vec![1, LIMIT - 1, 1, cause];
+    let bytes = [(0x80, last(1)), (0xFF, last(2)), (0xE2, last(4))];
+    checking(run, bridge_bytes_check, b'A', &bytes);
+    let units = [(0xDC00, last(1)), (0xD800, last(4))];
+    checking(run, bridge_units_check, 0x4E00, &units);
+    let points = [(0xD800, vec![9, LIMIT - 1])];
+    checking(run, bridge_points_check, 0x1F686, &points);
     writing(run, bridge_bytes_to_units, b'A', &[0x41]);
     writing(run, bridge_bytes_to_points, b'A', &[0x41]);
     writing(run, bridge_bytes_repair, b'A', b"A");
@@ -80,7 +87,7 @@ where
 {
     let pieces = (0..=piece.len()).map(|n| Some(&piece[..n])).chain([None]);
     for piece in pieces {
-        for (out, list) in [(20, 2), (0, 2), (20, 1), (0, 1)] {
+        for (out, list) in [(20, 3), (0, 3), (20, 2), (0, 2)] {
             let tried = Tried {
                 decoding,
                 state,

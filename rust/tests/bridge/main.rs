@@ -2,6 +2,7 @@
 //!
 //! Prints how many cases were compared. An argument names the subjects to run; MOXANDRIL_ROUNDS makes a longer run.
 mod calls;
+mod causes;
 mod classes;
 #[path = "../common/mod.rs"]
 mod common;
@@ -43,7 +44,7 @@ const USUAL: usize = 1_000_000;
 type Subject = (&'static str, fn(&mut Run));
 
 /// The subjects, the longest first, so that the last to end are short.
-const SUBJECTS: [Subject; 27] = [
+const SUBJECTS: [Subject; 30] = [
     ("limits of lookups and the builder", limits::lookups),
     ("limits of conversions", limits::conversions),
     ("limits of pieces", limits::pieces),
@@ -55,6 +56,7 @@ const SUBJECTS: [Subject; 27] = [
     ("bytes in pieces, as units", pieces::to_units),
     ("every cutting of units", cuttings::of_units),
     ("every cutting of bytes, as units", cuttings::to_units),
+    ("causes of bytes", causes::of_bytes),
     ("the builder in pieces", pieces::build),
     ("block edges", edges::all),
     ("runs and cuts near their edges", edges::in_pieces),
@@ -67,10 +69,12 @@ const SUBJECTS: [Subject; 27] = [
     ("the watch over a lent state", watch::all),
     ("conversions of random texts", conversions::random),
     ("conversions of short texts", conversions::short),
+    ("causes of units", causes::of_units),
     ("cutting", cutting::all),
     ("pending bytes", pending::all),
     ("the most places", room::all),
     ("a lent table of classes", classes::all),
+    ("causes of code points", causes::of_codes),
 ];
 
 /// Runs a subject; says whether it passed. The seed and the number of the case are enough to repeat a failure.

@@ -54,15 +54,24 @@ fn compare(run: &mut Run) {
     run.cases += 3;
 }
 
+/// How much of what stands first is settled, by its kind and its size: the same whatever its cause.
+fn sizes(run: &mut Run) {
+    for n in [0, 1, 2, 3, 4, 1_000, usize::MAX] {
+        for cause in (0..=5).chain([u32::MAX]) {
+            let kinds = [0, 1, 2, 3, 4, usize::MAX];
+            let sizes = kinds.map(|kind| calls::settled_size(kind, n, cause));
+            let expected = [0, n, n, 0, NOT_CALLED, NOT_CALLED];
+            assert_eq!(sizes, expected, "size {n}, cause {cause}");
+            run.cases += 6;
+        }
+    }
+}
+
 pub fn all(run: &mut Run) {
     for _ in 0..run.rounds(40_000) {
         compare(run);
     }
-    for n in [0, 1, 2, 3, 4, 1_000, usize::MAX] {
-        let sizes = [0, 1, 2, 3, 4, usize::MAX].map(|kind| calls::settled_size(kind, n));
-        assert_eq!(sizes, [0, n, n, 0, NOT_CALLED, NOT_CALLED]);
-        run.cases += 6;
-    }
+    sizes(run);
     let replies = calls::too_short();
     assert!(replies.iter().all(|&n| n == NOT_CALLED), "{replies:?}");
     run.cases += replies.len() as u64;

@@ -3,6 +3,7 @@ use crate::calls::{self, filled, Decoding, MARGIN, PIECES, PIECES_TO_UNITS, UNIT
 use crate::common::model::decoder::{Decoder, State};
 use crate::common::model::forms::Form;
 use crate::common::model::index::{built, need, Builder};
+use crate::common::model::ENTRY;
 use crate::courses::{decode_course, Course, Tested};
 use crate::Run;
 
@@ -39,7 +40,7 @@ struct Example<'a, T, U> {
 impl<T: Tested, U: Form> Example<'_, T, U> {
     fn compare(&self, run: &mut Run, decoding: Decoding<T, U>) {
         let (_, mut state) = decoding.start(4, 0);
-        let (mut out, mut list) = ([U::from(7); 16], [7; 8]);
+        let (mut out, mut list) = ([U::from(7); 16], [7; 4 * ENTRY]);
         for (i, &written) in self.written.iter().enumerate() {
             let (told, next) = match self.pieces.get(i) {
                 Some(piece) => decoding.feed(state, piece, &mut out, &mut list),
@@ -96,7 +97,7 @@ pub fn repair(run: &mut Run) {
     let example = Example::<u8, u8> {
         pieces: &[b"\xE2", b"\x82", b"\x41"],
         written: &[b"", b"", b"\xEF\xBF\xBD\x41", b""],
-        list: &[0, 2],
+        list: &[0, 2, 3],
         totals: [1, 2, 1],
     };
     example.compare(run, PIECES);
@@ -111,7 +112,7 @@ pub fn units(run: &mut Run) {
         Example {
             pieces: &[&[0xD83D], &[0xD83D, 0xDE86]],
             written: &[b"", b"\xEF\xBF\xBD\xF0\x9F\x9A\x86", b""],
-            list: &[0, 1],
+            list: &[0, 1, 3],
             totals: [2, 1, 1],
         },
         Example {
@@ -128,13 +129,13 @@ pub fn units(run: &mut Run) {
                 b"\xEF\xBF\xBD",
                 b"\xEF\xBF\xBD",
             ],
-            list: &[1, 1, 3, 1, 4, 1],
+            list: &[1, 1, 3, 3, 1, 1, 4, 1, 4],
             totals: [2, 3, 3],
         },
         Example {
             pieces: &[&[0xDE86, 0xD83D]],
             written: &[b"\xEF\xBF\xBD", b"\xEF\xBF\xBD"],
-            list: &[0, 1, 1, 1],
+            list: &[0, 1, 1, 1, 1, 4],
             totals: [0, 2, 2],
         },
     ];
@@ -152,19 +153,19 @@ pub fn to_units(run: &mut Run) {
         Example {
             pieces: &[b"\xE2", b"\x82", b"\x41"],
             written: &[&[], &[], &[0xFFFD, 0x41], &[]],
-            list: &[0, 2],
+            list: &[0, 2, 3],
             totals: [1, 2, 1],
         },
         Example {
             pieces: &[b"\xF0\x9F", b"\x9A\x86\xF0\x9F", b"\x9A"],
             written: &[&[], &[0xD83D, 0xDE86], &[], &[0xFFFD]],
-            list: &[4, 3],
+            list: &[4, 3, 4],
             totals: [4, 3, 1],
         },
         Example {
             pieces: &[b"\xE2\x82\xAC\x80\xC3", b"\xA9\xFF"],
             written: &[&[0x20AC, 0xFFFD], &[0xE9, 0xFFFD], &[]],
-            list: &[3, 1, 6, 1],
+            list: &[3, 1, 1, 6, 1, 2],
             totals: [5, 2, 2],
         },
     ];

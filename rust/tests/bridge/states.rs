@@ -4,7 +4,7 @@ use crate::common::model::decoder::{most, Decoder, Fed, State};
 use crate::common::model::forms::Form;
 use crate::common::model::index::{need, Builder};
 use crate::common::model::pending::{elements, hold, Piece};
-use crate::common::model::{LIMIT, ROOM};
+use crate::common::model::{ENTRY, LIMIT, ROOM};
 use crate::common::INTERESTING;
 use crate::courses::{Tested, Tried};
 use crate::pieces::try_build;
@@ -81,8 +81,8 @@ fn lent<T: Tested>(run: &mut Run, state: State<T>) -> Lent<T> {
     let length = run.random.below(12);
     let piece = T::text(&mut run.random, length);
     let list = match run.random.below(4) {
-        0 => run.random.below(9),
-        _ => 2 * state.room.min(4_097),
+        0 => run.random.below(4 * ENTRY),
+        _ => ENTRY * state.room.min(4_097),
     };
     let out = run.random.below(3 * piece.len() + 12);
     Lent { piece, out, list }
@@ -140,7 +140,7 @@ where
     let lent = Lent {
         piece: piece.to_vec(),
         out: most::<U>(piece.len()),
-        list: 2,
+        list: ENTRY,
     };
     let most_whole = LIMIT - 2 * T::DAMAGE;
     for &held in held {

@@ -42,13 +42,30 @@ pub fn is_beginning(text: &[u8]) -> bool {
         .any(|row| text.len() < row.len() && agreeing(row, text) == text.len())
 }
 
-/// The damages of a text: start and length of each.
-pub fn damages(text: &[u8]) -> Vec<(usize, usize)> {
+/// The cause of the segment that takes so many bytes at the start of a text, by the request's five sentences: 0 whole; 1 a lone 80..BF; 2 a
+/// byte of C0, C1, F5..FF; 3 a begun sequence stopped by another byte; 4 stopped by the end of the text.
+pub fn cause(text: &[u8], (length, whole): (usize, bool)) -> usize {
+    match (&text[..length], text.get(length)) {
+        _ if whole => 0,
+        ([0x80..=0xBF], _) => 1,
+        ([0xC0 | 0xC1 | 0xF5..=0xFF], _) => 2,
+        (begun, another) => {
+            assert!(is_beginning(begun), "no cause for {begun:02X?}");
+            another.map_or(4, |_| 3)
+        }
+    }
+}
+
+/// A damage: its start, its length and its cause.
+pub type Damage = (usize, usize, usize);
+
+/// The damages of a text.
+pub fn damages(text: &[u8]) -> Vec<Damage> {
     let (mut found, mut at) = (Vec::new(), 0);
     while at < text.len() {
         let (n, whole) = segment(&text[at..]);
         if !whole {
-            found.push((at, n));
+            found.push((at, n, cause(&text[at..], (n, whole))));
         }
         at += n;
     }

@@ -1,7 +1,7 @@
 //! Repair in pieces: the state, its tests, and what each call writes, enters and tells; over bytes or units, written in any form.
 use super::forms::{converted, mark, segments, Form};
 use super::pending::{elements, hold, is_tail, joined, Piece};
-use super::{Told, LIMIT, ROOM};
+use super::{Told, ENTRY, LIMIT, ROOM};
 
 /// What a decoder keeps between two pieces, in any numbers.
 #[derive(Clone, Copy, Debug, PartialEq, Eq)]
@@ -94,16 +94,17 @@ impl<T: Piece> State<T> {
             Some(vec![8])
         } else if self.taken + more > LIMIT {
             Some(vec![2])
-        } else if list < 2 * self.room {
+        } else if list < ENTRY * self.room {
             Some(vec![7])
         } else {
             None
         }
     }
 
-    /// The state behind a stretch of text from the last settled place, all of which is settled, and its entries.
-    fn settle(&self, stretch: &[T]) -> (State<T>, Vec<u32>) {
-        let start = self.taken - self.pending;
+    /// The state behind a stretch of text from the last settled place, all of which is settled, and its entries. Behind it stands what is not:
+    /// segments are read from both joined, as what stops a sequence may itself be pending.
+    fn settle(&self, stretch: &[T], behind: &[T]) -> (State<T>, Vec<u32>) {
+        let (start, text) = (self.taken - self.pending, [stretch, behind].concat());
         let mut next = State {
             held: T::Held::default(),
             pending: 0,
@@ -111,13 +112,14 @@ impl<T: Piece> State<T> {
             ..*self
         };
         let mut entries = Vec::new();
-        for (at, s) in segments(stretch) {
+        let read = segments(&text).into_iter();
+        for (at, s) in read.take_while(|&(at, _)| at < stretch.len()) {
             if s.point.is_some() {
                 next.whole += s.length;
                 continue;
             }
             if next.count < next.room {
-                entries.extend([(start + at) as u32, s.length as u32]);
+                entries.extend([start + at, s.length, s.cause].map(|n| n as u32));
             }
             next.count += 1;
             next.damaged += s.length;
@@ -135,7 +137,7 @@ impl<T: Piece> State<T> {
         if out < output.len() {
             return self.refuse(vec![3, output.len()]);
         }
-        let (mut state, entries) = self.settle(&stretch);
+        let (mut state, entries) = self.settle(&stretch, &tail);
         state.held = hold(&tail);
         state.pending = tail.len();
         state.taken += tail.len();
@@ -158,7 +160,7 @@ impl<T: Piece> State<T> {
         if out < output.len() {
             return self.refuse(vec![3, output.len()]);
         }
-        let (total, entries) = self.settle(&left);
+        let (total, entries) = self.settle(&left, &[]);
         Fed {
             told: vec![0, output.len(), total.whole, total.damaged, total.count],
             state: State::fresh(self.room),

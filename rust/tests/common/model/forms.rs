@@ -1,14 +1,16 @@
 //! The three forms of text: what stands first, strict reading, conversion and repair.
 use super::{over_limit, Told};
-use crate::common::{is_beginning, segment};
+use crate::common::{cause, is_beginning, segment};
 use std::fmt::Debug;
 
-/// A segment: how many elements it takes, its code point if it is whole, and whether that is sure whatever follows.
+/// A segment: how many elements it takes, its code point if it is whole, whether that is sure whatever follows, and its cause in the text that
+/// it was read from.
 #[derive(Clone, Copy, Debug, PartialEq, Eq)]
 pub struct Segment {
     pub length: usize,
     pub point: Option<u32>,
     pub sure: bool,
+    pub cause: usize,
 }
 
 const REPLACEMENT: char = '\u{FFFD}';
@@ -18,7 +20,7 @@ pub trait Form: Copy + Debug + PartialEq + From<u8> {
     /// The segment that stands first in a text that is not empty.
     fn segment(text: &[Self]) -> Segment;
     /// What strict reading tells of its first damage.
-    fn refusal(start: usize, length: usize) -> Told;
+    fn refusal(start: usize, damage: Segment) -> Told;
     /// Writes a code point.
     fn put(c: char, out: &mut Vec<Self>);
 }
@@ -40,15 +42,27 @@ impl Form for u8 {
             length,
             point: whole.then(|| point_of(&text[..length])),
             sure: whole || length < text.len() || !is_beginning(text),
+            cause: cause(text, (length, whole)),
         }
     }
 
-    fn refusal(start: usize, length: usize) -> Told {
-        vec![1, start, length]
+    fn refusal(start: usize, damage: Segment) -> Told {
+        vec![1, start, damage.length, damage.cause]
     }
 
     fn put(c: char, out: &mut Vec<u8>) {
         out.extend(c.encode_utf8(&mut [0; 4]).bytes());
+    }
+}
+
+/// The cause of the segment that takes so many units at the start of a text, by the request's words: 1 a unit of DC00..DFFF, 3 a first half
+/// stopped by another unit, 4 a first half that ends the text; 2 never.
+fn unit_cause(text: &[u16], length: usize) -> usize {
+    match (&text[..length], text.get(length)) {
+        ([0xDC00..=0xDFFF], _) => 1,
+        ([0xD800..=0xDBFF], Some(_)) => 3,
+        ([0xD800..=0xDBFF], None) => 4,
+        _ => 0,
     }
 }
 
@@ -69,11 +83,12 @@ impl Form for u16 {
             length,
             point,
             sure,
+            cause: unit_cause(text, length),
         }
     }
 
-    fn refusal(start: usize, length: usize) -> Told {
-        vec![1, start, length]
+    fn refusal(start: usize, damage: Segment) -> Told {
+        vec![1, start, damage.length, damage.cause]
     }
 
     fn put(c: char, out: &mut Vec<u16>) {
@@ -82,15 +97,19 @@ impl Form for u16 {
 }
 
 impl Form for u32 {
+    /// A number that is no scalar value is damage of cause 2.
     fn segment(text: &[u32]) -> Segment {
+        let scalar = char::from_u32(text[0]);
         Segment {
             length: 1,
-            point: char::from_u32(text[0]).map(u32::from),
+            point: scalar.map(u32::from),
             sure: true,
+            cause: scalar.map_or(2, |_| 0),
         }
     }
 
-    fn refusal(position: usize, _: usize) -> Told {
+    /// The position alone, without a cause.
+    fn refusal(position: usize, _: Segment) -> Told {
         vec![9, position]
     }
 
@@ -105,7 +124,8 @@ pub fn first<T: Form>(text: &[T]) -> Told {
         return vec![];
     }
     let s = T::segment(text);
-    vec![s.point.is_none() as usize, s.length, s.sure as usize]
+    let damage = s.point.is_none() as usize;
+    vec![damage, s.length, s.sure as usize, s.cause]
 }
 
 /// The code point that stands first, U+FFFD for damage, and its size; both 0 where there is none.
@@ -134,7 +154,7 @@ pub fn check<T: Form>(text: &[T]) -> Told {
         return told;
     }
     let damage = segments(text).into_iter().find(|(_, s)| s.point.is_none());
-    damage.map_or(vec![0], |(start, s)| T::refusal(start, s.length))
+    damage.map_or(vec![0], |(start, s)| T::refusal(start, s))
 }
 
 /// U+FFFD in a form.

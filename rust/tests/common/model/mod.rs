@@ -10,6 +10,8 @@ pub mod places;
 pub const LIMIT: usize = 16_777_216;
 /// The most entries that a damage list has room for.
 pub const ROOM: usize = 4_096;
+/// How many numbers an entry of a damage list is: start, length and cause.
+pub const ENTRY: usize = 3;
 
 /// The numbers that an answer tells: the refusal's number and its values, or 0 and what was granted.
 pub type Told = Vec<usize>;
