@@ -1,7 +1,7 @@
 -- That a segment is read with the cause of which the paper's sentence is true of it, and with no other, for any table whose rows do not meet.
 use mathlib.Core.Path.{_≡_, refl, _∙_}
 use mathlib.Core.Logic.{_⊎_, inl, inr, ⊎-elim, _↔_}
-use Prim.Native.Nat.{ℕ, zero, suc}
+use Prim.Native.Nat.{ℕ, zero, suc, _≤_}
 use mathlib.Core.Bool.{true}
 use mathlib.Core.List.{List, [], _∷_, append-nil}
 use mathlib.Core.Option.{none}
@@ -47,29 +47,30 @@ module _ (rows : List Row) (strays foreigners : List Range) (cause : ℕ → ℕ
   module _ (n c : ℕ) (no-whole : (k : ℕ) → Whole rows text k → ⊥) where
     -- a begun sequence that is stopped
     module _ (l : Longest rows text n) where
+      three-or-four : StoppedBy rows text n c → (3 ≤ c) × (c ≤ 4)
+      three-or-four (inl a) = (omega (arith, a .1), omega (arith, a .1))
+      three-or-four (inr a) = (omega (arith, a .1), omega (arith, a .1))
+
       told-stopped : StoppedBy rows text n c → (k : ℕ) → Says n k ↔ (c ≡ k)
-      told-stopped b zero = (λ w. absurd (no-whole n w), λ e. absurd (⊎-elim (λ a. omega (arith, e, a .1)) (λ a. omega (arith, e, a .1)) b))
-      told-stopped b (suc zero) =
-          (λ h. absurd (no-stray n (l .begun) (h .1)), λ e. absurd (⊎-elim (λ a. omega (arith, e, a .1)) (λ a. omega (arith, e, a .1)) b))
-      told-stopped b (suc (suc zero)) =
-          (λ h. absurd (no-foreigner n (l .begun) (h .1)), λ e. absurd (⊎-elim (λ a. omega (arith, e, a .1)) (λ a. omega (arith, e, a .1)) b))
+      told-stopped b zero = (λ w. absurd (no-whole n w), λ e. absurd (omega (arith, e, three-or-four b)))
+      told-stopped b (suc zero) = (λ h. absurd (no-stray n (l .begun) (h .1)), λ e. absurd (omega (arith, e, three-or-four b)))
+      told-stopped b (suc (suc zero)) = (λ h. absurd (no-foreigner n (l .begun) (h .1)), λ e. absurd (omega (arith, e, three-or-four b)))
       told-stopped (inl a) (suc (suc (suc zero))) = (λ h. a .1, λ e. ((no-whole, l), a .0))
       told-stopped (inr a) (suc (suc (suc zero))) = (λ h. absurd (omega (arith, h .1, a .0)), λ e. absurd (omega (arith, e, a .1)))
       told-stopped (inl a) (suc (suc (suc (suc zero)))) = (λ h. absurd (omega (arith, h .1, a .0)), λ e. absurd (omega (arith, e, a .1)))
       told-stopped (inr a) (suc (suc (suc (suc zero)))) = (λ h. a .1, λ e. ((no-whole, l), a .0))
-      told-stopped b (suc (suc (suc (suc (suc k))))) =
-          (λ h. absurd h, λ e. absurd (⊎-elim (λ a. omega (arith, e, a .1)) (λ a. omega (arith, e, a .1)) b))
+      told-stopped b (suc (suc (suc (suc (suc k))))) = (λ h. absurd h, λ e. absurd (omega (arith, e, three-or-four b)))
 
     -- a lone element
     module _ (o : Lone rows text cause n c) where
       named : (among strays x ≡ true) ⊎ (among foreigners x ≡ true)
       named = lone .no-others (begins-none-lone rows cause s x xs (o .begins-none))
 
-      stray-or-foreign : (c ≡ stray) ⊎ (c ≡ foreign)
-      stray-or-foreign = ⊎-elim (λ a. inl (o .own ∙ lone .of-strays a .1)) (λ a. inr (o .own ∙ lone .of-foreigners a .1)) named
+      one-or-two : (1 ≤ c) × (c ≤ 2)
+      one-or-two = ⊎-elim (λ a. omega (arith, o .own, lone .of-strays a .1)) (λ a. omega (arith, o .own, lone .of-foreigners a .1)) named
 
       told-lone : (k : ℕ) → Says n k ↔ (c ≡ k)
-      told-lone zero = (λ w. absurd (no-whole n w), λ e. absurd (⊎-elim (λ a. omega (arith, e, a)) (λ a. omega (arith, e, a)) stray-or-foreign))
+      told-lone zero = (λ w. absurd (no-whole n w), λ e. absurd (omega (arith, e, one-or-two)))
       told-lone (suc zero) = (
         λ h. o .own ∙ lone .of-strays (h .1) .1,
         λ e. (o .one, ⊎-elim (λ a. a) (λ a. absurd (omega (arith, e, o .own, lone .of-foreigners a .1))) named),
@@ -80,7 +81,7 @@ module _ (rows : List Row) (strays foreigners : List Range) (cause : ℕ → ℕ
       )
       told-lone (suc (suc (suc k))) = (
         λ h. absurd (none-longer k h),
-        λ e. absurd (⊎-elim (λ a. omega (arith, e, a)) (λ a. omega (arith, e, a)) stray-or-foreign),
+        λ e. absurd (omega (arith, e, one-or-two)),
       )
         where
           none-longer : (k : ℕ) → Says n (suc (suc (suc k))) → ⊥
