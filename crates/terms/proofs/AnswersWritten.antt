@@ -77,28 +77,28 @@ repair-count text form out out′ r w n e =
     let m : n ≡ length form = cc (l .1) in
     (m, rw m k)
 
+-- ---- a refusal does not depend on what would be granted
+
+pub limited-refused : (text : List ℕ) {says granted granted′ : List ℕ} → (says ≡ granted → says ≡ granted′)
+    → says ≡ limited text granted → says ≡ limited text granted′
+limited-refused text f e = split (ltb limit (length text)) (λ t. rw t (rw t at e)) (λ t. rw t (f (rw t at e)))
+
+pub strictly-refused : (refuse : Entry Kind → List ℕ) (ds : List (Entry Kind)) (granted : List ℕ) (r : Refusal)
+    → toldRefusal r ≡ strictly refuse ds (0 ∷ []) → toldRefusal r ≡ strictly refuse ds granted
+strictly-refused refuse [] granted r e = absurd (true≢false (sym (ap (λ (l : List ℕ). eqb (getD l 0 0) 0) e) ∙ no-zero r))
+strictly-refused refuse (d ∷ ds) granted r e = e
+
 -- ---- strict conversion: the check's refusal, or repair's answer, since there is nothing to repair
 
 module _ (refuse : Entry Kind → List ℕ) (F G : Form) (text out : List ℕ) where
   abbrev checking : List ℕ
   checking = limited text (strictly refuse (damages (F .look) text) (0 ∷ []))
 
-  -- a refusal of the check does not depend on what would be granted
-  same-refusal : (ds : List (Entry Kind)) (granted : List ℕ) (r : Refusal) → toldRefusal r ≡ limited text (strictly refuse ds (0 ∷ []))
-      → toldRefusal r ≡ limited text (strictly refuse ds granted)
-  same-refusal ds granted r e = split (ltb limit (length text))
-      (λ t. rw t (rw t at e))
-      (λ t. rw t (go ds (rw t at e)))
-    where
-      go : (ds : List (Entry Kind)) → toldRefusal r ≡ strictly refuse ds (0 ∷ []) → toldRefusal r ≡ strictly refuse ds granted
-      go [] q = absurd (true≢false (sym (ap (λ (l : List ℕ). eqb (getD l 0 0) 0) q) ∙ no-zero r))
-      go (d ∷ ds) q = q
-
   pub strict-refused : (r : Refusal) → toldChecked (the-checked.Refused r) ≡ checking
       → Writes (convertSays refuse F G (length out) text) (converted F G text) out out (Refused r)
   strict-refused r e =
       refuses (convertSays refuse F G (length out) text) (converted F G text) out r
-      (same-refusal (damages (F .look) text) (roomed (length out) (converted F G text)) r e)
+      (limited-refused text (strictly-refused refuse (damages (F .look) text) (roomed (length out) (converted F G text)) r) e)
 
   pub strict-granted : Refuses refuse → toldChecked WellFormed ≡ checking → (out′ : List ℕ) (r : Written)
       → Writes (repairSays (length out) text (converted F G text)) (converted F G text) out out′ r

@@ -1,0 +1,4 @@
+-- Where a needle stands in an entry, where it stands first, and the entry from there on; in the numbers of the refusals
+pub mod Match
+-- What private steps promise each other
+pub mod Inside
