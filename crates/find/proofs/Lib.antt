@@ -10,3 +10,5 @@ pub mod SearchWalks
 pub mod PlacesPassed
 -- The checks before a search: what they refuse the search refuses alike, and what they grant it answers with its first match
 pub mod CheckedFirst
+-- A MATCH OF A NON-EMPTY NEEDLE BEGINS AND ENDS AT BOUNDARIES of the entry, damaged or not
+pub mod MatchAtBoundaries

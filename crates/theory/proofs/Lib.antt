@@ -34,3 +34,5 @@ pub mod PendingBegins
 pub mod AcceptsWellFormed
 -- THE READER OF A TABLE reads the table's segments, in the paper's words, for any table whose rows do not meet
 pub mod TableReads
+-- AN ELEMENT THAT GOES ON WITH NO SEQUENCE BEGINS A SEGMENT WHEREVER IT STANDS, for any table
+pub mod BeginsAnywhere
