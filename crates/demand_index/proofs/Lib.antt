@@ -1,5 +1,3 @@
--- Two answers of a lookup are compared by what they tell
-pub mod AnswersCompared
 -- The audit says yes to what a course of feeds that was finished left
 pub mod AuditSaysYes
 -- A build in pieces goes call by call: what a feed answers decides where the next piece begins

@@ -1,13 +1,9 @@
 // Lookup in an index that was built in any pieces answers as plain lookup.
 use place::Bytes;
 use place::Lines;
-use place::Place;
-use place::Placed;
 use place::Points;
 use place::Units;
-use terms::Refusal;
 ghost use mathlib.Core.Path.{_≡_};
-ghost use mathlib.Core.Logic.{_↔_};
 ghost use mathlib.Core.Bool.{true};
 ghost use Rattle.index_lookup.specs.Agreeing.{AsPlain};
 ghost use Rattle.demand_index.specs.Builds.{built};
@@ -15,57 +11,24 @@ ghost use Rattle.demand_index.specs.Builds.{built};
 pub mod audits;
 mod building;
 
-// The same four counts.
-fn same_places(p: Place, q: Place) -> bool
-    ensures { λ r. ⌜ (r ≡ true) ↔ (p ≡ q) ⌝ }
-{
-    (p.bytes == q.bytes) & (p.units == q.units) & (p.points == q.points) & (p.lines == q.lines)
-}
-
-// The same number and the same values.
-fn same_refusals(a: Refusal, b: Refusal) -> bool
-    ensures { λ r. ⌜ (r ≡ true) ↔ (a ≡ b) ⌝ }
-{
-    (a.number() == b.number())
-        & (a.first_value() == b.first_value())
-        & (a.second_value() == b.second_value())
-        & (a.third_value() == b.third_value())
-}
-
-// The same place, or the same refusal.
-fn same(a: Placed, b: Placed) -> bool
-    ensures { λ r. ⌜ (r ≡ true) ↔ (a ≡ b) ⌝ }
-{
-    match a {
-        Placed::At(p) => match b {
-            Placed::At(q) => same_places(p, q),
-            Placed::Refused(_) => false,
-        },
-        Placed::Refused(why) => match b {
-            Placed::At(_) => false,
-            Placed::Refused(because) => same_refusals(why, because),
-        },
-    }
-}
-
 // Over a row that stands for a text's index, each of the four lookups is the plain one.
 fn agree(text: &[u8], row: &[u32], byte: Bytes, unit: Units, point: Points, line: Lines) -> bool
     requires { ⌜ AsPlain (now row) (now text) ⌝ }
     ensures { λ r. ⌜ r ≡ true ⌝ }
 {
-    same(
+    demand_shared::answers::same_placed(
         index_lookup::at_byte(text, row, byte),
         place_lookup::at_byte(text, byte),
     )
-        & same(
+        & demand_shared::answers::same_placed(
             index_lookup::at_unit(text, row, unit),
             place_lookup::at_unit(text, unit),
         )
-        & same(
+        & demand_shared::answers::same_placed(
             index_lookup::at_point(text, row, point),
             place_lookup::at_point(text, point),
         )
-        & same(
+        & demand_shared::answers::same_placed(
             index_lookup::at_line(text, row, line),
             place_lookup::at_line(text, line),
         )

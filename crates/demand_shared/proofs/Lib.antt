@@ -2,3 +2,5 @@
 pub mod CutsBetween
 -- The comparison: it says yes exactly of a list and itself, and goes element by element
 pub mod EqualExactly
+-- Answers are compared by what they tell: tests of their numbers are the comparison of these lists
+pub mod AnswersCompared

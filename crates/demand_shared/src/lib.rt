@@ -1,8 +1,10 @@
-// What the demands share: cut positions brought into a text, the smaller of two numbers, and texts compared.
+// What the demands share: cut positions brought into a text, the smaller of two numbers, texts and answers compared.
 ghost use mathlib.Core.Path.{_≡_};
 ghost use Prim.Native.Nat.{min};
 ghost use Rattle.demand_shared.specs.Cuts.{bring};
 ghost use Rattle.demand_shared.specs.Equal.{equal};
+
+pub mod answers;
 
 // A cut position, any number, is brought between the previous one and the end.
 pub fn bring(cut: usize, from: usize, end: usize) -> usize

@@ -1,8 +1,8 @@
 -- `same_refusals` meets its contract: its four tests compare the numbers told.
 use borrow.Author.Needs.{needs}
-use Rattle.demand_index.proofs.AnswersCompared.{refusals-exactly}
-use Rattle.demand_index.proofs.same_refusals.Statement.{statement}
-use Rattle.demand_index.proofs.same_refusals.Tie as tie
+use Rattle.demand_shared.proofs.AnswersCompared.{refusals-compared}
+use Rattle.demand_shared.proofs.answers.same_refusals.Statement.{statement}
+use Rattle.demand_shared.proofs.answers.same_refusals.Tie as tie
 
 number-requires : tie.Need-number-requires
 number-requires c κs = search needs
@@ -43,7 +43,7 @@ returns c =
       c .before .third-value .ensures,
       c .third-value2 .ensures,
     )
-    (refusals-exactly (a .a) (a .b))
+    (refusals-compared (a .a) (a .b))
 
 pub same-refusals-spec : {M : Type 1} → statement M
 same-refusals-spec =
