@@ -17,7 +17,15 @@ use Rattle.terms.proofs.ConvertsBack.{limited-granted, strictly-granted}
 use Rattle.terms.proofs.ToldBack.{no-zero}
 use Rattle.utf8.specs.Bytes.{bytes}
 use Rattle.find.specs.Match.{firstMatch, matchSays, findSays, onward, restSays}
+use Rattle.find.specs.Inside.Compared.{Stands}
 use Rattle.find.proofs.FirstMatch.{match-stands}
+
+-- a match that was granted
+pub record Found (entry needle : List ℕ) (k : ℕ) : Type 0 where
+  pub within : length entry ≤ limit
+  pub clean : damages bytes needle ≡ []
+  pub first : firstMatch entry needle ≡ some k
+  pub stands : Stands entry needle k
 
 module _ (entry needle : List ℕ) where
   pub find-refused : (r : Refusal) → toldRefusal r ≡ limited entry (checkSays bytes needle) → toldRefusal r ≡ findSays entry needle
@@ -38,12 +46,14 @@ module _ (entry needle : List ℕ) where
   pub rest-refused : (r : Refusal) → toldRefusal r ≡ findSays entry needle → [] ≡ restSays entry needle
   rest-refused r e = rw (← e, no-zero r)
 
-  -- what the search says where it grants is its first match, which no refusal tells
-  granted-match : {ns : List ℕ} → findSays entry needle ≡ 0 ∷ ns → matchSays (firstMatch entry needle) ≡ 0 ∷ ns
+  -- a search that grants says its first match, of an entry within the limit and a needle with no damage
+  granted-match : {ns : List ℕ} → findSays entry needle ≡ 0 ∷ ns
+      → (length entry ≤ limit) × (damages bytes needle ≡ []) × (matchSays (firstMatch entry needle) ≡ 0 ∷ ns)
   granted-match e =
       let a = limited-granted entry (limited needle (strictly damaged (damages bytes needle) (matchSays (firstMatch entry needle)))) e in
       let b = limited-granted needle (strictly damaged (damages bytes needle) (matchSays (firstMatch entry needle))) (a .1) in
-      strictly-granted damaged (λ x. refl) (damages bytes needle) (matchSays (firstMatch entry needle)) (b .1) .1
+      let d = strictly-granted damaged (λ x. refl) (damages bytes needle) (matchSays (firstMatch entry needle)) (b .1) in
+      (a .0, d .0, d .1)
 
   said-some : (o : Option ℕ) (k : ℕ) → matchSays o ≡ 0 ∷ k ∷ [] → o ≡ some k
   said-some none k e = let z : _≡_ {A = ℕ} 1 2 = ap length e in absurd (omega arith)
@@ -53,15 +63,18 @@ module _ (entry needle : List ℕ) where
   said-none none e = refl
   said-none (some i) e = let z : _≡_ {A = ℕ} 2 1 = ap length e in absurd (omega arith)
 
-  pub found-match : (k : ℕ) → 0 ∷ k ∷ [] ≡ findSays entry needle → firstMatch entry needle ≡ some k
-  found-match k e = said-some (firstMatch entry needle) k (granted-match (sym e))
+  pub found-match : (k : ℕ) → 0 ∷ k ∷ [] ≡ findSays entry needle → Found entry needle k
+  found-match k e =
+      let g = granted-match (sym e) in
+      let first = said-some (firstMatch entry needle) k (g .2) in
+      record { within = g .0; clean = g .1; first = first; stands = match-stands entry needle k first }
 
   pub found-inside : (k : ℕ) → 0 ∷ k ∷ [] ≡ findSays entry needle → k ≤ length entry
-  found-inside k e = omega (arith, match-stands entry needle k (found-match k e) .inside)
+  found-inside k e = omega (arith, found-match k e .stands .inside)
 
   pub rest-found : (k : ℕ) → 0 ∷ k ∷ [] ≡ findSays entry needle → take (length entry - k) (drop k entry) ≡ restSays entry needle
   rest-found k e =
-      take-all (length entry - k) (drop k entry) (omega (arith, length-drop k entry)) ∙ sym (rw (← e, found-match k e))
+      take-all (length entry - k) (drop k entry) (omega (arith, length-drop k entry)) ∙ sym (rw (← e, found-match k e .first))
 
   pub rest-absent : 0 ∷ [] ≡ findSays entry needle → [] ≡ restSays entry needle
-  rest-absent e = sym (rw (← e, said-none (firstMatch entry needle) (granted-match (sym e))))
+  rest-absent e = sym (rw (← e, said-none (firstMatch entry needle) (granted-match (sym e) .2)))

@@ -4,7 +4,8 @@ use Prim.Native.Nat.{ℕ, zero, suc, _+_, _<_}
 use mathlib.Core.Bool.{true, false, true≢false}
 use mathlib.Core.List.{List, [], _∷_}
 use mathlib.Core.Option.{Option, none, some}
-use lib.ListN.{length}
+use lib.ListN.{length, take, drop, length-drop}
+use lib.Seq.{length-take-le, getD-take, getD-drop, ext-getD}
 use lib.Dec.{eqb}
 use borrow.Author.Tests.{eqb-true, eq-eqb}
 use native.Mathlib.Omega.{arith}
@@ -149,3 +150,10 @@ empty-match entry needle e =
       stands = record { inside = omega arith; same = λ i h. absurd (omega arith) };
       none = λ j h s. absurd (omega arith);
     })
+
+-- the needle is the part of the entry where it stands
+pub stands-part : (entry needle : List ℕ) (k : ℕ) → Stands entry needle k → take (length needle) (drop k entry) ≡ needle
+stands-part entry needle k s =
+    let long = length-take-le (length needle) (drop k entry) (omega (arith, length-drop k entry, s .inside)) in
+    ext-getD 0 (take (length needle) (drop k entry)) needle long
+    (λ i h. getD-take (length needle) (drop k entry) i 0 (omega arith) ∙ getD-drop k entry i 0 ∙ s .same i (omega arith))

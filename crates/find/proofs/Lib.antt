@@ -12,3 +12,5 @@ pub mod PlacesPassed
 pub mod CheckedFirst
 -- A MATCH OF A NON-EMPTY NEEDLE BEGINS AND ENDS AT BOUNDARIES of the entry, damaged or not
 pub mod MatchAtBoundaries
+-- What a search tells loses nothing: two answers that tell the same are equal
+pub mod ToldBack

@@ -4,8 +4,8 @@ use Prim.Native.Nat.{ℕ, _+_, _<_}
 use mathlib.Core.Bool.{true, false, true≢false}
 use mathlib.Core.List.{List, [], _∷_, _++_, append-assoc}
 use mathlib.Core.Option.{some}
-use lib.ListN.{length, take, drop, take-append-drop, length-drop}
-use lib.Seq.{length-take-le, drop-drop, getD-drop, getD-take, ext-getD}
+use lib.ListN.{length, take, drop, take-append-drop}
+use lib.Seq.{length-take-le, drop-drop}
 use native.Mathlib.Omega.{arith}
 use Rattle.theory.specs.Reader.{first, rest, cut}
 use Rattle.theory.specs.Table.{isDamage, within}
@@ -21,21 +21,15 @@ use Rattle.utf8.specs.Bytes.{next, rows, loneByte, bytes}
 use Rattle.utf8.proofs.RowsOfBytes.{at-none, bytes-division, whole-sure}
 use Rattle.utf8_check.proofs.RunDivides.{whole-tags}
 use Rattle.find.specs.Match.{firstMatch}
-use Rattle.find.specs.Boundaries.{Bounded}
+use Rattle.find.specs.Boundaries.{Boundary, Bounded}
 use Rattle.find.specs.Inside.Compared.{Stands}
-use Rattle.find.proofs.FirstMatch.{match-stands}
+use Rattle.find.proofs.FirstMatch.{match-stands, empty-match, stands-part}
 
 -- the entry around the needle
 around : (entry needle : List ℕ) (k : ℕ) → Stands entry needle k → entry ≡ take k entry ++ (needle ++ drop (k + length needle) entry)
 around entry needle k s =
     sym (take-append-drop k entry)
-    ∙ ap (λ (l : List ℕ). take k entry ++ l) (sym (take-append-drop (length needle) (drop k entry)) ∙ rw (there, drop-drop))
-  where
-    there : take (length needle) (drop k entry) ≡ needle
-    there =
-        let long = length-take-le (length needle) (drop k entry) (omega (arith, length-drop k entry, s .inside)) in
-        ext-getD 0 (take (length needle) (drop k entry)) needle long
-        (λ i h. getD-take (length needle) (drop k entry) i 0 (omega arith) ∙ getD-drop k entry i 0 ∙ s .same i (omega arith))
+    ∙ ap (λ (l : List ℕ). take k entry ++ l) (sym (take-append-drop (length needle) (drop k entry)) ∙ rw (stands-part entry needle k s, drop-drop))
 
 -- the first byte of a whole segment goes on with no sequence
 first-byte : (x : ℕ) (xs : List ℕ) → isDamage (bytes x xs .tag) ≡ false → within next x ≡ false
@@ -87,12 +81,19 @@ stands-bounded entry y ys k w s =
     sized : total size (f .front) ≡ k
     sized = f .sized ∙ length-take-le k entry (omega (arith, s .inside))
 
--- THE THEOREM, wherever the bytes of a well-formed needle stand, and so of the first match
+-- THE THEOREM, wherever the bytes of a well-formed needle stand
 pub match-bounded : (entry needle : List ℕ) (k : ℕ) → damages bytes needle ≡ [] → 0 < length needle → Stands entry needle k → Bounded entry needle k
 match-bounded entry [] k d h s = absurd (omega arith)
 match-bounded entry (y ∷ ys) k d h s =
     stands-bounded entry y ys k (whole-tags (cut bytes (y ∷ ys)) (none-whole 0 (cut bytes (y ∷ ys)) d)) s
 
-pub first-bounded : (entry needle : List ℕ) (k : ℕ) → damages bytes needle ≡ [] → 0 < length needle → firstMatch entry needle ≡ some k
-    → Bounded entry needle k
-first-bounded entry needle k d h e = match-bounded entry needle k d h (match-stands entry needle k e)
+-- and so of the first match, as an empty needle's is at 0
+pub first-bounded : (entry needle : List ℕ) (k : ℕ) → damages bytes needle ≡ [] → firstMatch entry needle ≡ some k → Bounded entry needle k
+first-bounded entry [] k d e =
+    let z : k ≡ 0 = some-same (sym e ∙ empty-match entry [] refl) in
+    let b : Boundary entry 0 = record { front = []; behind = cut bytes entry; divided = refl; sized = refl } in
+    rw z (record { begin = b; end = b })
+  where
+    some-same : {a b : ℕ} → some a ≡ some b → a ≡ b
+    some-same q = cc
+first-bounded entry (y ∷ ys) k d e = match-bounded entry (y ∷ ys) k d (omega arith) (match-stands entry (y ∷ ys) k e)

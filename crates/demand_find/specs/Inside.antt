@@ -1,0 +1,2 @@
+-- An offset at which a lookup by bytes grants a place
+pub mod Found
