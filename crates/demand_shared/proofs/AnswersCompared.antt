@@ -1,5 +1,5 @@
 -- Answers are compared by what they tell: tests of their numbers are the comparison of these lists.
-use mathlib.Core.Path.{_≡_, refl, sym, ap, ap₂, _∙_}
+use mathlib.Core.Path.{_≡_, refl, sym, ap, _∙_}
 use Prim.Native.Nat.{ℕ}
 use mathlib.Core.Bool.{Bool, true, false, _&&_}
 use mathlib.Core.List.{List, [], _∷_}
@@ -13,7 +13,7 @@ use Rattle.terms.proofs.ToldBack.{backRefusal, refusal-back, no-zero}
 use Rattle.place.specs.Lookup.{fourCounts}
 use Rattle.place.specs.declared.Place.{Place}
 use Rattle.demand_shared.specs.Equal.{equal}
-use Rattle.demand_shared.proofs.EqualExactly.{equal-same, equal-yes, equal-only}
+use Rattle.demand_shared.proofs.EqualExactly.{equal-yes, equal-only}
 
 -- two tests that pass together are one
 same-tests : (a b : Bool) → (a ≡ true → b ≡ true) → (b ≡ true → a ≡ true) → a ≡ b

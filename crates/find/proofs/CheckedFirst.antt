@@ -16,7 +16,7 @@ use Rattle.terms.proofs.AnswersWritten.{limited-refused, strictly-refused}
 use Rattle.terms.proofs.ConvertsBack.{limited-granted, strictly-granted}
 use Rattle.terms.proofs.ToldBack.{no-zero}
 use Rattle.utf8.specs.Bytes.{bytes}
-use Rattle.find.specs.Match.{firstMatch, matchSays, findSays, onward, restSays}
+use Rattle.find.specs.Match.{firstMatch, matchSays, findSays, restSays}
 use Rattle.find.specs.Inside.Compared.{Stands}
 use Rattle.find.proofs.FirstMatch.{match-stands}
 

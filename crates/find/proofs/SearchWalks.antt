@@ -31,6 +31,14 @@ pub walked-start : (entry needle : List ℕ) → Walked entry needle 0 0
 walked-start entry needle =
     record { inside = omega arith; none = λ k h s. absurd (omega arith); low = omega arith; known = λ i h. absurd (omega arith) }
 
+-- from a place on that no match lies before
+pub walked-from : (entry needle : List ℕ) → 0 < length needle → (from : ℕ) → Passed entry needle 0 from → Walked entry needle from 0
+walked-from entry needle h from p = onward entry needle 0 0 (walked-start entry needle) from (omega (arith, p .inside)) (p .none)
+
+pub walked-passed : (entry needle : List ℕ) (place seen : ℕ) → place + length needle ≤ length entry + 1 → Walked entry needle place seen
+    → Passed entry needle 0 place
+walked-passed entry needle place seen h w = record { onward = omega arith; inside = h; none = λ k u v s. w .none k v s }
+
 module _ (entry needle : List ℕ) (place seen : ℕ) (w : Walked entry needle place seen) where
   pub walked-end : length entry - place < length needle → 0 ∷ [] ≡ matchSays (firstMatch entry needle)
   walked-end h = rw (none-match entry needle (λ k s. under k place (λ u. w .none k u s) (λ u. omega (arith, s .inside))))
@@ -47,12 +55,12 @@ module _ (entry needle : List ℕ) (place seen : ℕ) (w : Walked entry needle p
       (λ k u v s. e (ap (λ (n : ℕ). at entry (n + i)) (omega arith) ∙ s .same i a))
 
   -- over places where the needle cannot stand, where nothing is known
-  pub walked-over : (next : ℕ) → Passed entry needle place next → (0 < seen → next ≡ place) → Walked entry needle next seen
-  walked-over next p stay = under 0 seen
+  pub walked-over : 0 < length needle → (next : ℕ) → Passed entry needle place next → (0 < seen → next ≡ place) → Walked entry needle next seen
+  walked-over z next p stay = under 0 seen
       (λ h. rw (stay h) w)
       (λ h.
-      let z : seen ≡ 0 = omega arith in
-      rw z (onward entry needle place seen w next (omega (arith, p .inside)) (p .none)))
+      let none : seen ≡ 0 = omega arith in
+      rw none (onward entry needle place seen w next (omega (arith, p .inside)) (p .none)))
 
   -- ---- by a cut
 

@@ -1,5 +1,5 @@
 -- AN ELEMENT THAT GOES ON WITH NO SEQUENCE BEGINS A SEGMENT WHEREVER IT STANDS, for any table: a text divides in front of it.
-use mathlib.Core.Path.{_≡_, refl, sym, ap, _∙_}
+use mathlib.Core.Path.{_≡_, refl, sym, _∙_}
 use Prim.Native.Nat.{ℕ, _≤_, suc-le-suc}
 use mathlib.Core.Bool.{Bool, true, false, _&&_, true≢false}
 use mathlib.Core.List.{List, [], _∷_, _++_}

@@ -9,7 +9,7 @@ use native.Mathlib.Omega.{arith}
 use Rattle.demand_shared.proofs.EqualExactly.{equal-yes}
 use Rattle.find.specs.Match.{toldMatch, findSays}
 use Rattle.find.proofs.FirstMatch.{stands-part}
-use Rattle.find.proofs.CheckedFirst.{Found, found-match, found-inside, rest-found, rest-absent, rest-refused}
+use Rattle.find.proofs.CheckedFirst.{Found, found-match, rest-found, rest-absent, rest-refused}
 use borrow.Author.Needs.{needs}
 use Rattle.demand_find.proofs.found_is_handed_back.Statement.{statement}
 use Rattle.demand_find.proofs.found_is_handed_back.Tie as tie

@@ -28,8 +28,8 @@ pub record Rare (needle : List ℕ) (i j : ℕ) : Type 0 where
   pub first : i < length needle
   pub second : j < length needle
 
--- from one place on to another the needle does not stand, and it may stand at the other
+-- from one place on to another, at most the one behind the last where there is room for it, the needle does not stand
 pub record Passed (entry needle : List ℕ) (place next : ℕ) : Type 0 where
   pub onward : place ≤ next
-  pub inside : next + length needle ≤ length entry
+  pub inside : next + length needle ≤ length entry + 1
   pub none : (k : ℕ) → place ≤ k → k < next → Stands entry needle k → ⊥

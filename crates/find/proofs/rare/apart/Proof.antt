@@ -10,10 +10,10 @@ use Rattle.find.proofs.rare.apart.Statement.{statement}
 use Rattle.find.proofs.rare.apart.Tie as tie
 
 abbrev Inv-loop : tie.InvT-loop
-Inv-loop first second a b least₀ k₀ least k = (k ≤ 64) × ((j : ℕ) → j < k → at first j ≡ a → at second j ≡ b → least ≡ 0)
+Inv-loop first second a b size least₀ k₀ least k = (k ≤ size) × ((j : ℕ) → j < k → at first j ≡ a → at second j ≡ b → least ≡ 0)
 
 abbrev μ-loop : tie.MeasureT-loop
-μ-loop first second a b least₀ k₀ least k = 64 - k
+μ-loop first second a b size least₀ k₀ least k = size - k
 
 loop-holds : tie.Need-loop-holds Inv-loop μ-loop
 loop-holds c = (omega arith, λ j h. absurd (omega arith))

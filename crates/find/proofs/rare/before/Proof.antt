@@ -9,10 +9,13 @@ use Rattle.find.proofs.rare.before.Statement.{statement}
 use Rattle.find.proofs.rare.before.Tie as tie
 
 abbrev Inv-loop : tie.InvT-loop
-Inv-loop first second a b least₀ k₀ least k = (k ≤ 64) × (least ≤ 64) × ((j : ℕ) → j < k → at first j ≡ a → at second j ≡ b → least ≤ j)
+Inv-loop first second a b size all least₀ k₀ least k = (k ≤ size) × (least ≤ size) × ((j : ℕ) → j < k → at first j ≡ a → at second j ≡ b → least ≤ j)
 
 abbrev μ-loop : tie.MeasureT-loop
-μ-loop first second a b least₀ k₀ least k = 64 - k
+μ-loop first second a b size all least₀ k₀ least k = size - k
+
+cast-all : tie.Need-cast-all Inv-loop μ-loop
+cast-all c = search needs
 
 loop-holds : tie.Need-loop-holds Inv-loop μ-loop
 loop-holds c = (omega arith, omega arith, λ j h. absurd (omega arith))
@@ -66,6 +69,7 @@ before-spec =
     (tie.spec
     Inv-loop
     μ-loop
+    cast-all
     loop-holds
     shared-slice-read-differ
     shared-slice-read-differ-2

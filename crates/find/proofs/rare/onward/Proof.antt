@@ -1,108 +1,26 @@
--- `onward` meets its contract: each block passes over places.
-use Prim.Native.Nat.{_-_, _+_}
-use native.Mathlib.Omega.{arith}
-use Rattle.find.specs.Inside.Compared.{Passed}
-use Rattle.find.proofs.PlacesPassed.{passed-none, passed-more}
+-- `onward` meets its contract: places are passed by wide blocks, by narrow ones and by a last one.
+use Rattle.find.proofs.PlacesPassed.{passed-both}
 use borrow.Author.Needs.{needs}
 use Rattle.find.proofs.rare.onward.Statement.{statement}
 use Rattle.find.proofs.rare.onward.Tie as tie
 
-abbrev Inv-loop : tie.InvT-loop
-Inv-loop entry needle place i j a b last at₀ at = Passed entry needle place at
+pass-requires : tie.Need-pass-requires
+pass-requires c κs = search needs
 
-abbrev μ-loop : tie.MeasureT-loop
-μ-loop entry needle place i j a b last at₀ at = last - at
+pass-requires-2 : tie.Need-pass-requires-2
+pass-requires-2 c κs = let i = c .pass .ensures .inside in search needs
 
-shared-slice-read-a : tie.Need-shared-slice-read-a Inv-loop μ-loop
-shared-slice-read-a c = search needs
+pass-requires-3 : tie.Need-pass-requires-3
+pass-requires-3 c κs = let i = c .pass2 .ensures .inside in search needs
 
-shared-slice-read-b : tie.Need-shared-slice-read-b Inv-loop μ-loop
-shared-slice-read-b c = search needs
+pass-last-requires : tie.Need-pass-last-requires
+pass-last-requires c κs = let i = c .pass3 .ensures .inside in search needs
 
-sub-last : tie.Need-sub-last Inv-loop μ-loop
-sub-last c = search needs
-
-loop-holds : tie.Need-loop-holds Inv-loop μ-loop
-loop-holds c = passed-none _ _ _ (c .before .before .before .before .pre .1)
-
-sub-loop : tie.Need-sub-loop Inv-loop μ-loop
-sub-loop c = search needs
-
-add-block : tie.Need-add-block Inv-loop μ-loop
-add-block c = search needs
-
-sub-block : tie.Need-sub-block Inv-loop μ-loop
-sub-block c = search needs
-
-part-block-start : tie.Need-part-block-start Inv-loop μ-loop
-part-block-start c = search needs
-
-part-block-end : tie.Need-part-block-end Inv-loop μ-loop
-part-block-end c = search needs
-
-add-block-2 : tie.Need-add-block-2 Inv-loop μ-loop
-add-block-2 c = search needs
-
-sub-block-2 : tie.Need-sub-block-2 Inv-loop μ-loop
-sub-block-2 c = search needs
-
-part-block-start-2 : tie.Need-part-block-start-2 Inv-loop μ-loop
-part-block-start-2 c = search needs
-
-part-block-end-2 : tie.Need-part-block-end-2 Inv-loop μ-loop
-part-block-end-2 c = search needs
-
-block-requires : tie.Need-block-requires Inv-loop μ-loop
-block-requires c κs = search needs
-
-add-at : tie.Need-add-at Inv-loop μ-loop
-add-at c = search needs
-
--- behind a block
-passed : (c : tie.After-block Inv-loop μ-loop)
-    → let l = c .before .before .before .before in
-    let a = l .before .before .before .before .before .args in
-    Passed (a .entry .now) (a .needle .now) (a .place) (l .loop .at + c .block .result)
-passed c =
-    let l = c .before .before .before .before in
-    let s = l .before .before .before .before .before in
-    passed-more _ _ _ (l .loop .at) (s .args .rare .first) (s .args .rare .second) (c .block .result) (l .loop .inv) (s .pre .0 .first) (s .pre .0 .second)
-    (omega (arith, c .block .ensures .1, s .pre .1)) (c .block .ensures .0)
-
-returns : tie.Need-returns Inv-loop μ-loop
-returns c = passed (c .before)
-
-loop-less : tie.Need-loop-less Inv-loop μ-loop
-loop-less c = search needs
-
-loop-again : tie.Need-loop-again Inv-loop μ-loop
-loop-again c = passed (c .before)
-
-returns-2 : tie.Need-returns-2 Inv-loop μ-loop
-returns-2 c = c .before .loop .inv
+returns : tie.Need-returns
+returns c =
+    let n = c .before in
+    let w = n .before in
+    passed-both _ _ _ _ _ (passed-both _ _ _ _ _ (passed-both _ _ _ _ _ (w .before .pass .ensures) (w .pass2 .ensures)) (n .pass3 .ensures)) (c .pass-last .ensures)
 
 pub onward-spec : {M : Type 1} → statement M
-onward-spec =
-    tie.close
-    (tie.spec
-    Inv-loop
-    μ-loop
-    shared-slice-read-a
-    shared-slice-read-b
-    sub-last
-    loop-holds
-    sub-loop
-    add-block
-    sub-block
-    part-block-start
-    part-block-end
-    add-block-2
-    sub-block-2
-    part-block-start-2
-    part-block-end-2
-    block-requires
-    add-at
-    returns
-    loop-less
-    loop-again
-    returns-2)
+onward-spec = tie.close (tie.spec pass-requires pass-requires-2 pass-requires-3 pass-last-requires returns)
