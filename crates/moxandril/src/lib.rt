@@ -109,6 +109,14 @@ pub mod places {
     pub use place_lookup::resume;
 }
 
+// Where a phrase stands in a text, and the text from there on.
+pub mod phrases {
+    pub use find::Match;
+    pub use find::find;
+    pub use find::find_plain;
+    pub use find::find_rest;
+}
+
 // An index of a byte text: built in pieces, looked up, audited.
 pub mod index {
     pub use index_audit::audit;
