@@ -17,6 +17,9 @@ use Rattle.decoder.specs.declared.Total.the-variants as the-total
 use Rattle.place.specs.Lookup.{toldPlaced}
 use Rattle.place.specs.declared.Placed.{Placed}
 use Rattle.place.specs.declared.Placed.the-variants as the-placed
+use Rattle.find.specs.Match.{toldMatch}
+use Rattle.find.specs.declared.Match.{Match}
+use Rattle.find.specs.declared.Match.the-variants as the-match
 use Rattle.index_build.specs.State.{toldBuilding}
 use Rattle.index_build.specs.declared.state.Building.{Building}
 use Rattle.index_build.specs.declared.state.Building.the-variants as the-building
@@ -51,6 +54,11 @@ said-first (the-first.Begun n) e = ap saying e
 pub said-placed : (a : Placed) {s : Said} → s ≡ saidOf (toldPlaced a) → saying s ≡ toldPlaced a
 said-placed (the-placed.At p) e = ap saying e
 said-placed (the-placed.Refused r) e = said-refusal r e
+
+pub said-match : (m : Match) {s : Said} → s ≡ saidOf (toldMatch m) → saying s ≡ toldMatch m
+said-match (the-match.At k) e = ap saying e
+said-match the-match.Absent e = ap saying e
+said-match (the-match.Refused r) e = said-refusal r e
 
 pub said-opening : (a : Opening) {s : Said} → s ≡ saidOf (toldOpening a) → saying s ≡ toldOpening a
 said-opening the-opening.Ready e = ap saying e

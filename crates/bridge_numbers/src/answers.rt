@@ -2,6 +2,7 @@
 use crate::telling::Said;
 use decoder::Opening;
 use decoder::Total;
+use find::Match;
 use index_build::Building;
 use place::Placed;
 use terms::Checked;
@@ -16,6 +17,7 @@ ghost use mathlib.Core.List.{[], _∷_};
 ghost use Rattle.terms.specs.Told.{toldRefusal, toldFirst, toldChecked, toldWritten, bit};
 ghost use Rattle.decoder.specs.Feeding.{toldOpening, toldTotal};
 ghost use Rattle.place.specs.Lookup.{toldPlaced};
+ghost use Rattle.find.specs.Match.{toldMatch};
 ghost use Rattle.index_build.specs.State.{toldBuilding};
 ghost use Rattle.bridge_numbers.specs.Telling.{saidOf};
 ghost use Rattle.bridge_numbers.specs.Answers.{three, seamNumbers};
@@ -138,6 +140,23 @@ pub fn say_placed(a: Placed) -> Said
             count: 5,
         },
         Placed::Refused(r) => say_refusal(r),
+    }
+}
+
+// 0 and the offset of the match, 0 alone where there is none, or the refusal.
+pub fn say_match(m: Match) -> Said
+    ensures { λ s. ⌜ s ≡ saidOf (toldMatch m) ⌝ }
+{
+    match m {
+        Match::At(k) => Said {
+            numbers: [0, k, 0, 0, 0],
+            count: 2,
+        },
+        Match::Absent => Said {
+            numbers: [0, 0, 0, 0, 0],
+            count: 1,
+        },
+        Match::Refused(r) => say_refusal(r),
     }
 }
 
