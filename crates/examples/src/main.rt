@@ -2,6 +2,7 @@
 // and what came. Texts are in hexadecimal; a refusal is its number and its values.
 mod bytes;
 mod index;
+mod phrases;
 mod pieces;
 mod pieces_to_units;
 mod places;
@@ -18,5 +19,6 @@ fn main() {
     crate::unit_pieces::examples();
     crate::pieces_to_units::examples();
     crate::places::examples();
+    crate::phrases::examples();
     crate::index::examples();
 }
