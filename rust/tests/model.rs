@@ -5,6 +5,7 @@ use common::model::decoder::{most, start, Decoder, State, UnitDecoder};
 use common::model::forms::{check, converted, first, point, segments, Form};
 use common::model::index::{built, lookup, need, Builder};
 use common::model::pending::Piece;
+use common::model::phrases::{find, rest};
 use common::model::places::{cut, places, plain};
 use common::model::{ENTRY, LIMIT, ROOM};
 use common::{damages, repaired, Damage};
@@ -326,4 +327,30 @@ fn the_index() {
     assert_eq!(lookup(&letters, &row, 0, 256), [0, 256, 200, 256, 0]);
     assert_eq!(lookup(&letters, &row, 1, 230), [0, 286, 230, 286, 0]);
     assert_eq!(lookup(&letters, &row, 1, 250), [4]);
+}
+
+#[test]
+fn phrases() {
+    let told: [(&[u8], &[u8], &[usize]); 9] = [
+        (b"", b"", &[0, 0]),
+        (b"\x80", b"", &[0, 0]),
+        (b"", b"a", &[0]),
+        (b"abcabc", b"bc", &[0, 1]),
+        (b"abcabc", b"cb", &[0]),
+        (b"aab", b"ab", &[0, 1]),
+        (b"\xE2\x82\x41\xE2\x82\xAC", b"\xE2\x82\xAC", &[0, 3]),
+        (b"\xE2\x82", b"a\xE2\x82", &[1, 1, 2, 4]),
+        (b"\x80", b"\x80\xFF", &[1, 0, 1, 1]),
+    ];
+    for (entry, needle, told) in told {
+        assert_eq!(find(entry, needle), told, "{needle:02X?} in {entry:02X?}");
+        let from = told.get(1).filter(|_| told[0] == 0);
+        let part = from.map_or(b"".as_slice(), |&k| &entry[k..]);
+        assert_eq!(rest(entry, needle), part, "{needle:02X?} in {entry:02X?}");
+    }
+    let over = vec![0x80; LIMIT + 1];
+    assert_eq!(find(&over, b"\x80"), [2], "before damage");
+    assert_eq!(find(b"", &over), [2], "before damage");
+    assert_eq!(find(&over[1..], b""), [0, 0]);
+    assert_eq!(rest(&over, b""), []);
 }

@@ -4,6 +4,7 @@ pub mod decoder;
 pub mod forms;
 pub mod index;
 pub mod pending;
+pub mod phrases;
 pub mod places;
 
 /// The most bytes, units or code points of a text.
