@@ -33,6 +33,9 @@ pub type Goes = unsafe extern "C" fn(
     *mut usize,
     usize,
 ) -> usize;
+/// Seeks a needle in an entry and tells.
+pub type Seeks =
+    unsafe extern "C" fn(*const u8, usize, *const u8, usize, *mut usize, usize) -> usize;
 /// Cuts a text.
 pub type Cuts = unsafe extern "C" fn(*const u8, usize, usize) -> usize;
 /// Starts a text that comes in pieces, by the room of its list: puts the state and tells.
@@ -109,6 +112,9 @@ extern "C" {
     pub fn bridge_index_at_unit(text: *const u8, n: usize, row: *const u32, k: usize, offset: usize, says: *mut usize, m: usize) -> usize;
     pub fn bridge_index_at_point(text: *const u8, n: usize, row: *const u32, k: usize, offset: usize, says: *mut usize, m: usize) -> usize;
     pub fn bridge_index_at_line(text: *const u8, n: usize, row: *const u32, k: usize, offset: usize, says: *mut usize, m: usize) -> usize;
+    pub fn bridge_phrases_find(entry: *const u8, n: usize, needle: *const u8, k: usize, says: *mut usize, m: usize) -> usize;
+    pub fn bridge_phrases_find_plain(entry: *const u8, n: usize, needle: *const u8, k: usize, says: *mut usize, m: usize) -> usize;
+    fn bridge_phrases_find_rest(entry: *const u8, n: usize, needle: *const u8, k: usize) -> usize;
     fn bridge_index_audit(text: *const u8, n: usize, row: *const u32, k: usize) -> usize;
 
     fn bridge_pieces_start(room: usize, state: *mut usize, k: usize, says: *mut usize, m: usize) -> usize;
@@ -284,6 +290,19 @@ pub fn goes(call: Goes, text: &[u8], from: Place, kind: usize, offset: usize) ->
             m,
         )
     })
+}
+
+pub fn seeks(call: Seeks, entry: &[u8], needle: &[u8], places: usize) -> Told {
+    let (p, k) = (needle.as_ptr(), needle.len());
+    told_in(places, |s, m| unsafe {
+        call(entry.as_ptr(), entry.len(), p, k, s, m)
+    })
+}
+
+/// How many bytes the entry has from the match to its end.
+pub fn rest(entry: &[u8], needle: &[u8]) -> usize {
+    let (p, k) = (needle.as_ptr(), needle.len());
+    unsafe { bridge_phrases_find_rest(entry.as_ptr(), entry.len(), p, k) }
 }
 
 /// The most places that so many elements of one form can need in another: 0 bytes, 1 units, 2 code points.

@@ -7,6 +7,7 @@ use crate::common::model::pending::{hold, Piece};
 use crate::common::model::places::LINES;
 use crate::common::model::{Told, LIMIT, ROOM};
 use crate::courses::Tried;
+use crate::phrases::compare;
 use crate::Run;
 use std::fmt::Debug;
 
@@ -231,4 +232,39 @@ pub fn lookups(run: &mut Run) {
         }
         run.cases += 2;
     }
+}
+
+/// A needle that nearly matches at every place of an entry at the limit: the plain search would take too long.
+fn long_phrase(run: &mut Run, entry: &[u8], needle: &[u8], at: usize) {
+    assert_eq!(seeks(bridge_phrases_find, entry, needle, 8), [0, at]);
+    assert_eq!(calls::rest(entry, needle), entry.len() - at);
+    run.cases += 2;
+}
+
+pub fn phrases(run: &mut Run) {
+    let mut text = vec![b'A'; LIMIT + 1];
+    text[LIMIT - 1] = b'B';
+    let (whole, half) = (&text[..LIMIT], LIMIT / 2);
+    compare(run, whole, b"", &[0, 0]);
+    compare(run, whole, b"B", &[0, LIMIT - 1]);
+    compare(run, whole, b"AAB", &[0, LIMIT - 3]);
+    compare(run, whole, b"BA", &[0]);
+    compare(run, whole, whole, &[0, 0]);
+    compare(run, whole, &text[1..], &[0]);
+    compare(run, b"B", whole, &[0]);
+    long_phrase(run, whole, &whole[half..], half);
+    for needle in [b"".as_slice(), b"B", b"\x80", whole, &text] {
+        compare(run, &text, needle, &[2]);
+    }
+    for entry in [b"".as_slice(), b"B", whole] {
+        compare(run, entry, &text, &[2]);
+    }
+    compare(run, whole, b"A\x80", &[1, 1, 1, 1]);
+    let mut damaged = text.clone();
+    damaged[LIMIT - 1] = 0xE2;
+    compare(run, whole, &damaged[..LIMIT], &[1, LIMIT - 1, 1, 4]);
+    compare(run, &damaged[..LIMIT], b"A", &[0, 0]);
+    compare(run, &damaged[..LIMIT], b"B", &[0]);
+    compare(run, &damaged[..LIMIT], &damaged, &[2]);
+    compare(run, &damaged, &damaged[..LIMIT], &[2]);
 }

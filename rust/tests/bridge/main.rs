@@ -14,6 +14,7 @@ mod edges;
 mod limits;
 mod lookups;
 mod pending;
+mod phrases;
 mod pieces;
 mod room;
 mod states;
@@ -44,9 +45,16 @@ const USUAL: usize = 1_000_000;
 type Subject = (&'static str, fn(&mut Run));
 
 /// The subjects, the longest first, so that the last to end are short.
-const SUBJECTS: [Subject; 30] = [
+const SUBJECTS: [Subject; 34] = [
+    (
+        "phrases over two and three letters",
+        phrases::of_few_letters,
+    ),
+    ("phrases in periodic texts", phrases::in_periodic_texts),
     ("limits of lookups and the builder", limits::lookups),
     ("limits of conversions", limits::conversions),
+    ("limits of phrases", limits::phrases),
+    ("phrases in damaged entries", phrases::in_damaged_entries),
     ("limits of pieces", limits::pieces),
     ("lookups in falsified indexes", lookups::falsified),
     ("lookups at every offset", lookups::every_offset),
