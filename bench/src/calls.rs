@@ -22,6 +22,8 @@ extern "C" {
     fn bridge_index_finish(state: *mut usize, k: usize, row: *mut u32, r: usize, says: *mut usize, m: usize) -> usize;
     fn bridge_places_at_unit(text: *const u8, n: usize, offset: usize, says: *mut usize, m: usize) -> usize;
     fn bridge_index_at_unit(text: *const u8, n: usize, row: *const u32, k: usize, offset: usize, says: *mut usize, m: usize) -> usize;
+    fn bridge_phrases_find(entry: *const u8, n: usize, needle: *const u8, k: usize, says: *mut usize, m: usize) -> usize;
+    fn bridge_phrases_find_plain(entry: *const u8, n: usize, needle: *const u8, k: usize, says: *mut usize, m: usize) -> usize;
 }
 
 /// What a call told: the refusal's number and values, or 0 and what was granted.
@@ -114,4 +116,21 @@ pub fn plain_unit(text: &[u8], offset: usize) -> Said {
 pub fn index_unit(text: &[u8], row: &[u32], offset: usize) -> Said {
     let (r, k) = (row.as_ptr(), row.len());
     said(|s, m| unsafe { bridge_index_at_unit(text.as_ptr(), text.len(), r, k, offset, s, m) })
+}
+
+/// A search for the first match of a needle: 0 and its offset are told, or 0 alone where there is none.
+macro_rules! searches {
+    ($($name:ident: $call:ident;)*) => {$(
+        pub fn $name(entry: &[u8], needle: &[u8]) -> Option<usize> {
+            let (mut says, e, n) = ([0; 8], entry.as_ptr(), entry.len());
+            let (p, k, s) = (needle.as_ptr(), needle.len(), says.as_mut_ptr());
+            let told = unsafe { $call(e, n, p, k, s, 8) };
+            (told == 2).then_some(says[1])
+        }
+    )*};
+}
+
+searches! {
+    find: bridge_phrases_find;
+    find_plain: bridge_phrases_find_plain;
 }

@@ -1,7 +1,9 @@
 //! The two bodies of each job, ours and the peer's on the same text: first compared, then handed to a meter.
 use crate::meter::{keep, Meter, Pair};
+use crate::phrases::Phrase;
 use crate::shelf::{Number, Shelf};
 use crate::{calls, peers, ranges};
+use memchr::memmem;
 use std::hint::black_box;
 
 /// Two writers, each into a buffer of its own with so much room; both say how much they wrote, and must write the same.
@@ -247,5 +249,27 @@ pub fn indexed_loop(text: &[u8], shelf: &mut Shelf, meter: &mut dyn Meter) -> Pa
     meter.pair(
         &mut || keep(calls::index_unit(black_box(text), row, end)),
         &mut || keep(peers::byte_of_unit(black_box(text), end)),
+    )
+}
+
+/// The first match of a phrase; std is handed the text and the phrase as checked ones, while ours checks the phrase itself.
+pub fn find_std<P: Phrase>(text: &[u8], shelf: &mut Shelf, meter: &mut dyn Meter) -> Pair {
+    let entry = std::str::from_utf8(text).unwrap();
+    let needle = shelf.put(P::of(entry).as_bytes());
+    let phrase = std::str::from_utf8(needle).unwrap();
+    assert_eq!(calls::find(text, needle), entry.find(phrase));
+    meter.pair(
+        &mut || keep(calls::find(black_box(text), black_box(needle))),
+        &mut || keep(black_box(entry).find(black_box(phrase))),
+    )
+}
+
+pub fn find_memmem<P: Phrase>(text: &[u8], shelf: &mut Shelf, meter: &mut dyn Meter) -> Pair {
+    let entry = std::str::from_utf8(text).unwrap();
+    let needle = shelf.put(P::of(entry).as_bytes());
+    assert_eq!(calls::find(text, needle), memmem::find(text, needle));
+    meter.pair(
+        &mut || keep(calls::find(black_box(text), black_box(needle))),
+        &mut || keep(memmem::find(black_box(text), black_box(needle))),
     )
 }

@@ -1,11 +1,14 @@
-//! What is to be reached: ratios of times by job, peer and text, and instructions of repair in pieces.
+//! What is to be reached: ratios of times by job, peer and text, the growth of the search, and instructions of repair in pieces.
 use crate::inputs::*;
 use crate::jobs::{Row, CHECK, STREAMING};
+use crate::phrases::ABSENT;
 
 /// The shortest text that counts as one of 64 bytes: one that was cut at a character.
 const SIXTY_FOUR: usize = 61;
 /// The same for 24 bytes.
 const TWENTY_FOUR: usize = 21;
+/// The same for 1 MiB.
+const LONG: usize = (1 << 20) - 3;
 
 /// The texts on which repair in pieces is to execute few instructions.
 pub const IN_PIECES: [&str; 6] = [ASCII, CYRILLIC, CJK, EMOJI, DAMAGED, RANDOM];
@@ -13,6 +16,9 @@ pub const IN_PIECES: [&str; 6] = [ASCII, CYRILLIC, CJK, EMOJI, DAMAGED, RANDOM];
 pub const OVER_WHOLE: f64 = 1.3;
 /// The most instructions of a piece of one byte.
 pub const ONE_BYTE: f64 = 400.0;
+
+/// How many times as long the search of a text may take that is twice as long.
+pub const DOUBLED: f64 = 2.3;
 
 /// Whether pieces of so many bytes take few enough instructions a byte, beside the streaming decoder's and our whole repair's.
 pub fn few_enough(piece: usize, ours: f64, streaming: f64, whole: f64) -> bool {
@@ -60,6 +66,7 @@ fn anywhere(row: &Row) -> Option<f64> {
         ("repair", "encoding_rs") => Some(0.9),
         ("repair in pieces", STREAMING) if row.job.piece >= Some(1_000) => Some(1.0),
         (name, "encoding_rs") if name.ends_with("repairing") => Some(0.7),
+        (name, "std") if name.starts_with(ABSENT) && row.bytes >= LONG => Some(1.0),
         _ => None,
     }
 }

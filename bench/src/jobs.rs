@@ -1,6 +1,7 @@
 //! The jobs: what of ours is measured beside which peer, on which texts. One list serves times and instructions.
 use crate::inputs::{self, BROKEN, CLEAN};
 use crate::meter::{Meter, Pair};
+use crate::phrases::{Foreign, Last, Long, Phrase, Rare, Short, Usual};
 use crate::shelf::{self, Shelf};
 use crate::{cases, words};
 
@@ -122,12 +123,22 @@ const fn from_units<const SIZE: usize>() -> Job {
     }
 }
 
+/// The first match of a phrase beside std's.
+const fn find_std<P: Phrase>() -> Job {
+    strict(job(P::JOB, "std", cases::find_std::<P>))
+}
+
+/// The first match of a phrase beside that of memchr.
+const fn find_memmem<P: Phrase>() -> Job {
+    strict(job(P::JOB, "memmem", cases::find_memmem::<P>))
+}
+
 pub const CHECK: &str = "strict check";
 pub const STREAMING: &str = "encoding_rs, streaming";
 /// How much of a text is fed byte by byte.
 pub const BYTE_BY_BYTE: usize = 4_096;
 
-pub const JOBS: [Job; 28] = [
+pub const JOBS: [Job; 40] = [
     job(CHECK, "std", cases::check_std),
     strict(job(CHECK, "simdutf8", cases::check_simdutf8)),
     job("repair", "std lossy", cases::repair_std),
@@ -184,6 +195,18 @@ pub const JOBS: [Job; 28] = [
         "plain loop",
         cases::indexed_loop,
     )),
+    find_std::<Short>(),
+    find_memmem::<Short>(),
+    find_std::<Usual>(),
+    find_memmem::<Usual>(),
+    find_std::<Long>(),
+    find_memmem::<Long>(),
+    find_std::<Rare>(),
+    find_memmem::<Rare>(),
+    find_std::<Foreign>(),
+    find_memmem::<Foreign>(),
+    find_std::<Last>(),
+    find_memmem::<Last>(),
 ];
 
 /// How much of a text a check reads that stops at the first damage.

@@ -13,6 +13,8 @@ mod meter;
 mod page;
 mod parts;
 mod peers;
+mod periodic;
+mod phrases;
 mod picture;
 mod pieces;
 mod ranges;
@@ -81,6 +83,7 @@ fn time(folder: &Path, target: &Path) -> Result<()> {
         rows,
         growth: growth::calls_by_size(),
         lookups: growth::lookup_by_size(),
+        periodic: periodic::tables(),
         stack: stack::of_calls(),
         report: report::times(target)?,
     };

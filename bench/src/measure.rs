@@ -72,6 +72,20 @@ impl Meter for Clock {
     }
 }
 
+/// Runs each body once, where a run takes so long that many would take too long.
+pub struct Once;
+
+impl Meter for Once {
+    fn pair(&mut self, ours: &mut dyn FnMut(), peer: &mut dyn FnMut()) -> Pair {
+        let (ours, peer) = (seconds(ours, 1), seconds(peer, 1));
+        Pair {
+            ours,
+            peer,
+            ratio: peer / ours,
+        }
+    }
+}
+
 /// The median seconds of one run.
 pub fn alone(body: &mut dyn FnMut()) -> f64 {
     let runs = runs_for(body);

@@ -1,9 +1,11 @@
 //! The part of docs/BENCHMARK.md on times: the tables of one run, and how it was measured.
-use crate::goals::least;
+use crate::goals::{least, DOUBLED};
 use crate::growth::PerByte;
 use crate::jobs::{Job, Row, JOBS};
 use crate::measure::SAMPLES;
+use crate::periodic::{Line, Table};
 use crate::report::{Run, RUNS};
+use crate::words::{binary, three};
 
 pub struct Findings {
     pub machine: String,
@@ -11,6 +13,7 @@ pub struct Findings {
     pub rows: Vec<Row>,
     pub growth: Vec<PerByte>,
     pub lookups: [f64; 2],
+    pub periodic: [Table; 3],
     pub stack: Option<Vec<(&'static str, usize)>>,
     pub report: Vec<Run>,
 }
@@ -35,7 +38,13 @@ Ours is compiled for plain x86-64 (SSE2).
 in Rust: a loop for units alone, while ours serves the four measures by one walk.
 - Ours and std's check stop at the first damage, so a damaged text is cut behind it for them. simdutf8 (basic) reads on to the end, \
 and is compared on clean texts alone.
-- A ratio that is to be reached stands for texts of 64 bytes and more; that of the check against std from 24 bytes on.
+- A ratio that is to be reached stands for texts of 64 bytes and more; that of the check against std from 24 bytes on; that of an \
+absent phrase against std for 1 MiB.
+- An absent phrase of so many characters is cut from the middle of the text, and its last character changed to another of the text's \
+own. One with a rare first byte has eleven characters of the text behind one whose first byte the text has not. One of another script is \
+Japanese for texts with Latin letters, German for the others. The phrase that ends the text has twelve characters, or more where those \
+stand before its end too. In a short text a phrase has at most half of the bytes. std's `str::find` is handed text and phrase as checked \
+ones; ours checks the phrase. memmem is `memmem::find` of memchr, which chooses AVX2 at run time where the processor has it.
 - Repair in pieces writes into an output that is always long enough, both ours and that of encoding_rs's streaming decoder. Ours is \
 also compared with our own repair of the whole text. Byte by byte the beginning of a text is fed.
 ";
@@ -44,6 +53,12 @@ const REPORT: &str = "\
 The whole run of `report < FILE` on 16 MiB, beside `wc -c < FILE` and `iconv -f utf-8 -t utf-8 < FILE > /dev/null` as a user would time \
 them: from the start of the process to its end. `wc -c` of a file asks for its size and does not read it through. `iconv` would \
 stop at the first damage; on the damaged text it is run with `-c`, which leaves damages out and reads on.";
+
+const PERIODIC: &str = "\
+Needles that are absent, though nearly all of them stands in the text. The times are microseconds. A doubling is how many times as \
+long a search takes in the text of twice the length: the median of the ratios of neighbouring samples, and the larger of the two. The \
+plain search, which compares at every place from the start of the needle, is run once, in texts of at most 1 MiB. Where text and needle \
+both double, it takes four times as long if it compares much of the needle at many places.";
 
 fn length(bytes: usize) -> String {
     match bytes {
@@ -112,6 +127,33 @@ fn growth(found: &Findings) -> String {
     page + &format!("| indexed lookup, ns | {short:.0} | | {long:.0} |\n")
 }
 
+/// The most that a doubling took, and whether that is little enough.
+fn doubled(line: &Line) -> String {
+    let most = line.doublings.iter().fold(0.0, |a: f64, &b| a.max(b));
+    let goal = match (line.is_ours(), most <= DOUBLED) {
+        (false, _) => "".into(),
+        (true, true) => format!("{DOUBLED} reached"),
+        (true, false) => format!("{DOUBLED} **not reached**"),
+    };
+    format!("{most:.2} | {goal}")
+}
+
+fn periodic(table: &Table) -> String {
+    let lengths = table.lengths.map(binary).join(" | ");
+    let mut page = format!(
+        "\nA needle of {}:\n\n| needle and text | search | {lengths} | doubling | at most |\n",
+        table.needle
+    );
+    page += "|---|---|---|---|---|---|---|\n";
+    for line in &table.lines {
+        let mut times: Vec<String> = line.seconds.iter().map(|s| three(s * 1e6)).collect();
+        times.resize(table.lengths.len(), "".into());
+        let (pair, search, times) = (line.pair, line.search, times.join(" | "));
+        page += &format!("| {pair} | {search} | {times} | {} |\n", doubled(line));
+    }
+    page
+}
+
 fn memory(found: &Findings) -> String {
     let Some(stack) = &found.stack else {
         return "The stack could not be measured in this run.\n".into();
@@ -132,12 +174,14 @@ pub fn page(found: &Findings) -> String {
     format!(
         "# Benchmark\n\nWritten by `tools/bench` on {}; {pinned}, median of {SAMPLES}.\n\n{METHOD}\n\
          ![ratios at 1 MiB](benchmark.svg)\n\n## Ratios\n{}\n\
-         ## The report\n\n{REPORT} The times are medians of {RUNS} runs.\n\n{}\n## Growth\n\n{}\n## Memory\n\n\
+         ## The report\n\n{REPORT} The times are medians of {RUNS} runs.\n\n{}\n\
+         ## Growth\n\n{}\n### Periodic phrases\n\n{PERIODIC}\n{}\n## Memory\n\n\
          The library has no heap: it is handed all that it writes to. Its stack, on a damaged text of 1 MiB:\n\n{}",
         found.machine,
         tables(&found.rows),
         report(&found.report),
         growth(found),
+        found.periodic.iter().map(periodic).collect::<String>(),
         memory(found)
     )
 }

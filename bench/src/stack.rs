@@ -87,5 +87,9 @@ pub fn of_calls() -> Option<Vec<(&'static str, usize)>> {
             "indexed lookup",
             depth(&mut || keep(calls::index_unit(&text, &row, 5_000)))?,
         ),
+        (
+            "find",
+            depth(&mut || keep(calls::find(&text, b"Zellfehler")))?,
+        ),
     ])
 }

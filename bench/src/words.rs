@@ -8,6 +8,14 @@ pub fn bytes(n: usize) -> String {
     }
 }
 
+/// `512 KiB`, `2 MiB`.
+pub fn binary(n: usize) -> String {
+    match n >> 20 {
+        0 => format!("{} KiB", n >> 10),
+        whole => format!("{whole} MiB"),
+    }
+}
+
 /// A number with a comma between its groups of three.
 pub fn grouped(n: usize) -> String {
     match n {
