@@ -8,6 +8,7 @@ ghost use Rattle.terms.specs.Strict.{limited, checkSays};
 ghost use Rattle.utf8.specs.Bytes.{bytes};
 ghost use Rattle.find.specs.Match.{toldMatch, findSays, restSays};
 
+mod ahead;
 mod compare;
 mod critical;
 mod plain;

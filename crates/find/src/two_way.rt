@@ -1,7 +1,7 @@
 // The two-way search of Crochemore and Perrin: to the right of the needle's critical cut first, then to its left.
 use crate::Match;
+use crate::ahead::Ahead;
 use crate::critical::Plan;
-use crate::rare::Ahead;
 ghost use mathlib.Core.Path.{_≡_};
 ghost use Prim.Native.Nat.{_<_, max};
 ghost use lib.ListN.{length};
@@ -29,13 +29,13 @@ fn walk(entry: &[u8], needle: &[u8], from: usize, plan: Plan, rare: Ahead) -> Ma
     let mut seen = 0;
     let mut ahead = rare;
     while m <= n - place {
-        let at = crate::rare::next(entry, needle, place, seen, ahead);
+        let at = crate::ahead::next(entry, needle, place, seen, ahead);
         if n - at < m {
             return Match::Absent;
         }
         let i = crate::compare::agree(entry, needle, at, later(cut, seen), m);
         if i < m {
-            ahead = crate::rare::behind_look(ahead, seen, at - place, i);
+            ahead = crate::ahead::behind_look(ahead, seen, at - place, i);
             place = at + (i - cut + 1);
             seen = 0;
             continue;
@@ -44,7 +44,7 @@ fn walk(entry: &[u8], needle: &[u8], from: usize, plan: Plan, rare: Ahead) -> Ma
         if cut <= j {
             return Match::At(at);
         }
-        ahead = crate::rare::behind_look(ahead, seen, at - place, j);
+        ahead = crate::ahead::behind_look(ahead, seen, at - place, j);
         place = at + plan.shift;
         seen = plan.keep;
     }
@@ -62,7 +62,7 @@ pub(crate) fn search(entry: &[u8], needle: &[u8]) -> Match
         return Match::Absent;
     }
     let rare = crate::rare::rarest_two(needle);
-    let at = crate::rare::onward(entry, needle, 0, rare);
+    let at = crate::ahead::onward(entry, needle, 0, rare);
     if n - at < m {
         return Match::Absent;
     }

@@ -1,8 +1,8 @@
 -- `block` meets its contract.
 use native.Mathlib.Omega.{arith}
 use borrow.Author.Needs.{needs}
-use Rattle.find.proofs.rare.block.Statement.{statement}
-use Rattle.find.proofs.rare.block.Tie as tie
+use Rattle.find.proofs.ahead.block.Statement.{statement}
+use Rattle.find.proofs.ahead.block.Tie as tie
 
 apart-requires : tie.Need-apart-requires
 apart-requires c κs = search needs

@@ -1,8 +1,8 @@
 -- `onward` meets its contract: places are passed by wide blocks, by narrow ones and by a last one.
 use Rattle.find.proofs.PlacesPassed.{passed-both}
 use borrow.Author.Needs.{needs}
-use Rattle.find.proofs.rare.onward.Statement.{statement}
-use Rattle.find.proofs.rare.onward.Tie as tie
+use Rattle.find.proofs.ahead.onward.Statement.{statement}
+use Rattle.find.proofs.ahead.onward.Tie as tie
 
 pass-requires : tie.Need-pass-requires
 pass-requires c κs = search needs

@@ -5,8 +5,8 @@ use native.Mathlib.Omega.{arith}
 use borrow.Author.Count.{below-more}
 use Rattle.find.specs.Inside.Compared.{at}
 use borrow.Author.Needs.{needs}
-use Rattle.find.proofs.rare.before.Statement.{statement}
-use Rattle.find.proofs.rare.before.Tie as tie
+use Rattle.find.proofs.ahead.before.Statement.{statement}
+use Rattle.find.proofs.ahead.before.Tie as tie
 
 abbrev Inv-loop : tie.InvT-loop
 Inv-loop first second a b size all least₀ k₀ least k = (k ≤ size) × (least ≤ size) × ((j : ℕ) → j < k → at first j ≡ a → at second j ≡ b → least ≤ j)

@@ -6,8 +6,8 @@ use native.Mathlib.Omega.{arith}
 use Rattle.find.specs.Inside.Compared.{Passed}
 use Rattle.find.proofs.PlacesPassed.{passed-none, passed-more}
 use borrow.Author.Needs.{needs}
-use Rattle.find.proofs.rare.pass_last.Statement.{statement}
-use Rattle.find.proofs.rare.pass_last.Tie as tie
+use Rattle.find.proofs.ahead.pass_last.Statement.{statement}
+use Rattle.find.proofs.ahead.pass_last.Tie as tie
 
 sub-end : tie.Need-sub-end
 sub-end c = search needs

@@ -6,8 +6,8 @@ use borrow.Author.Count.{below-more}
 use borrow.Author.Tests.{ltb-true}
 use Rattle.find.specs.Inside.Compared.{at}
 use borrow.Author.Needs.{needs}
-use Rattle.find.proofs.rare.apart.Statement.{statement}
-use Rattle.find.proofs.rare.apart.Tie as tie
+use Rattle.find.proofs.ahead.apart.Statement.{statement}
+use Rattle.find.proofs.ahead.apart.Tie as tie
 
 abbrev Inv-loop : tie.InvT-loop
 Inv-loop first second a b size least₀ k₀ least k = (k ≤ size) × ((j : ℕ) → j < k → at first j ≡ a → at second j ≡ b → least ≡ 0)

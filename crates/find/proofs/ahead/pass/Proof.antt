@@ -4,8 +4,8 @@ use native.Mathlib.Omega.{arith}
 use Rattle.find.specs.Inside.Compared.{Passed}
 use Rattle.find.proofs.PlacesPassed.{passed-none, passed-more}
 use borrow.Author.Needs.{needs}
-use Rattle.find.proofs.rare.pass.Statement.{statement}
-use Rattle.find.proofs.rare.pass.Tie as tie
+use Rattle.find.proofs.ahead.pass.Statement.{statement}
+use Rattle.find.proofs.ahead.pass.Tie as tie
 
 abbrev Inv-loop : tie.InvT-loop
 Inv-loop entry needle place size i j a b end at₀ at = Passed entry needle place at
