@@ -1,4 +1,4 @@
-//! The wrappers of the crate `bridge_texts` as safe calls, with guards around every lent buffer.
+//! The wrappers of the crates `bridge_texts` and `bridge_places` as safe calls, with guards around every lent buffer.
 use crate::common::model::decoder::{Decoder, State};
 use crate::common::model::forms::Form;
 use crate::common::model::index::Builder;

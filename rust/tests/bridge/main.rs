@@ -1,4 +1,4 @@
-//! The library from outside: every wrapper of the crate `bridge_texts` against a model that is written from the paper.
+//! The library from outside: every wrapper of the crates `bridge_texts` and `bridge_places` against a model that is written from the paper.
 //!
 //! Prints how many cases were compared. An argument names the subjects to run; MOXANDRIL_ROUNDS makes a longer run.
 mod calls;

@@ -138,7 +138,7 @@ fn periodic(random: &mut Random, entry: usize, needle: usize) -> (String, String
     (written(&whole), written(&needle))
 }
 
-/// Texts in which a needle nearly matches at many places: what is remembered of a period, the blocks of 64 and their edges.
+/// Texts in which a needle nearly matches at many places: what is remembered of a period, what is looked for ahead, blocks and their edges.
 pub fn in_periodic_texts(run: &mut Run) {
     for round in 0..run.rounds(200_000) {
         let (entry, needle) = [(150, 12), (400, 80), (900, 400), (5_000, 400)][round % 4];
