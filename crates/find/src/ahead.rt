@@ -153,7 +153,8 @@ pub(crate) fn next(entry: &[u8], needle: &[u8], place: usize, seen: usize, ahead
 }
 
 // What to look for behind a place that was compared. Where looking passed over few places, the byte that differed is sought in place
-// of one that stands there too often; where it passed over next to nothing four times, it waits, so as to cost no more than walking.
+// of one that stands there too often. Where it did so with next to no place passed four times in a row, it waits, the longer the more
+// often, so as to cost little more than walking.
 pub(crate) fn behind_look(ahead: Ahead, seen: usize, passed: usize, differs: usize) -> Ahead
     ensures { λ r. ⌜ ((n : ℕ) → ahead .first < n → ahead .second < n → differs < n → (r .first < n) × (r .second < n)) ⌝ }
 {
@@ -161,7 +162,7 @@ pub(crate) fn behind_look(ahead: Ahead, seen: usize, passed: usize, differs: usi
         return Ahead {
             first: ahead.first,
             second: ahead.second,
-            poor: 0,
+            poor: ahead.poor,
             wait: ahead.wait - 1,
         };
     }
@@ -171,7 +172,7 @@ pub(crate) fn behind_look(ahead: Ahead, seen: usize, passed: usize, differs: usi
     if 256 <= passed {
         return ahead;
     }
-    if 8 <= passed {
+    if 16 <= passed {
         return Ahead {
             first: ahead.second,
             second: differs,
@@ -187,10 +188,18 @@ pub(crate) fn behind_look(ahead: Ahead, seen: usize, passed: usize, differs: usi
             wait: 0,
         };
     }
+    if ahead.poor < 32 {
+        return Ahead {
+            first: ahead.second,
+            second: differs,
+            poor: ahead.poor + 1,
+            wait: 32 * ahead.poor,
+        };
+    }
     Ahead {
         first: ahead.second,
         second: differs,
-        poor: 0,
-        wait: 32,
+        poor: 32,
+        wait: 1_024,
     }
 }
