@@ -145,6 +145,11 @@ pub fn in_periodic_texts(run: &mut Run) {
         let (entry, needle) = periodic(&mut run.random, entry, needle);
         as_std(run, &entry, &needle);
     }
+    // looking ahead waits longest in long texts of few letters
+    for _ in 0..run.rounds(20) {
+        let (entry, needle) = periodic(&mut run.random, 200_000, 400);
+        as_std(run, &entry, &needle);
+    }
 }
 
 /// By the model. Both ends of the match of a needle that is not empty are boundaries of the entry: a lookup there is granted.
