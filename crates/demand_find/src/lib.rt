@@ -6,7 +6,6 @@ use place::Points;
 use place::Units;
 ghost use mathlib.Core.Path.{_≡_};
 ghost use mathlib.Core.Bool.{true};
-ghost use Prim.Native.Nat.{_≤_};
 ghost use Rattle.demand_shared.specs.Equal.{equal};
 ghost use Rattle.find.specs.Match.{toldMatch};
 ghost use Rattle.demand_find.specs.Inside.Found.{IsPlace};
