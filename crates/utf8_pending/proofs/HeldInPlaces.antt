@@ -10,38 +10,37 @@ use lib.Seq.{drop-cons, take-all, take-at, take-take, length-take-le, getD-take,
 use lib.Dec.{leb, eqb}
 use borrow.Author.Tests.{leb-true, le-leb, lt-leb, eq-eqb, ne-eqb}
 use native.Mathlib.Omega.{arith}
-use Rattle.theory.specs.Reader.{pending}
+use Rattle.theory.specs.Reader.{Reader, pending}
 use Rattle.theory.proofs.Cases.{both}
 use Rattle.terms.specs.Limits.{mostPending, unheld}
-use Rattle.utf8.specs.Bytes.{bytes}
 use Rattle.utf8.specs.Pending.{zeros, padded}
 use Rattle.utf8_pending.specs.Tail.{isTail, four, placed, seamed}
 
 -- ---- the test
 
-module _ (held : List ℕ) (n : ℕ) where
-  pub tail-long : mostPending < n → false ≡ isTail held n
+module _ {K : Type 0} (look : Reader K) (held : List ℕ) (n : ℕ) where
+  pub tail-long : mostPending < n → false ≡ isTail look held n
   tail-long h = rw (lt-leb n mostPending h)
 
-  pub tail-settled : n ≤ mostPending → pending bytes (take n held) ≡ false → false ≡ isTail held n
+  pub tail-settled : n ≤ mostPending → pending look (take n held) ≡ false → false ≡ isTail look held n
   tail-settled h e = rw (le-leb n mostPending h, e)
 
-  pub tail-rest : n ≤ mostPending → pending bytes (take n held) ≡ true → zeros (drop n held) ≡ isTail held n
+  pub tail-rest : n ≤ mostPending → pending look (take n held) ≡ true → zeros (drop n held) ≡ isTail look held n
   tail-rest h e = rw (le-leb n mostPending h, e)
 
   -- what it says
   pub record Tail : Type 0 where
     pub few : n ≤ mostPending
-    pub begins : pending bytes (take n held) ≡ true
+    pub begins : pending look (take n held) ≡ true
     pub unused : zeros (drop n held) ≡ true
 
-  pub tail-is : isTail held n ≡ true → Tail
+  pub tail-is : isTail look held n ≡ true → Tail
   tail-is e =
       let a = both _ (zeros (drop n held)) e in
-      let b = both (leb n mostPending) (pending bytes (take n held)) (a .0) in
+      let b = both (leb n mostPending) (pending look (take n held)) (a .0) in
       record { few = leb-true n mostPending (b .0); begins = b .1; unused = a .1 }
 
-  pub is-tail : Tail → isTail held n ≡ true
+  pub is-tail : Tail → isTail look held n ≡ true
   is-tail t = sym (tail-rest (t .few) (t .begins)) ∙ t .unused
 
 -- ---- the unused bytes: those before i are 0

@@ -6,6 +6,7 @@ ghost use mathlib.Core.List.{_++_};
 ghost use Prim.Native.Nat.{min, _≤_};
 ghost use lib.ListN.{getD, take};
 ghost use Rattle.terms.specs.Limits.{mostPending};
+ghost use Rattle.utf8.specs.Bytes.{bytes};
 ghost use Rattle.utf8.specs.Pending.{zeros, padded};
 ghost use Rattle.utf8_pending.specs.Tail.{settledSize, isTail, seamOf, seamWith};
 
@@ -44,7 +45,7 @@ fn is_zero(bytes: &[u8]) -> bool
 // Are these at most 3 pending bytes, empty or a proper beginning of a well-formed sequence, and the unused ones 0? Mostly there are
 // none, and nothing is read.
 pub fn is_tail(held: [u8; Decoder::PENDING], n: usize) -> bool
-    ensures { λ r. ⌜ r ≡ isTail held n ⌝ }
+    ensures { λ r. ⌜ r ≡ isTail bytes held n ⌝ }
 {
     if n == 0 {
         return is_zero(&held);

@@ -7,9 +7,10 @@ use native.Mathlib.Omega.{arith}
 use borrow.Author.Needs.{needs}
 use Rattle.theory.specs.Tally.{total, size}
 use Rattle.terms.specs.Limits.{mostPending}
+use Rattle.utf8.specs.Bytes.{bytes}
 use Rattle.utf8.specs.Pending.{zeros}
 use Rattle.utf8_pending.specs.Tail.{firstSettled}
-use Rattle.utf8_pending.proofs.SettledFirst.{told-size, pending-none, pending-some}
+use Rattle.utf8_pending.proofs.SettledFirst.{bytes-short, told-size, pending-none, pending-some}
 use Rattle.utf8_pending.proofs.HeldInPlaces.{tail-long, tail-settled, tail-rest}
 use Rattle.utf8_pending.proofs.is_tail.Statement.{statement}
 use Rattle.utf8_pending.proofs.is_tail.Tie as tie
@@ -28,7 +29,7 @@ returns : tie.Need-returns
 returns c = rw (c .before .before .if1 .taken) (c .is-zero .ensures)
 
 returns-2 : tie.Need-returns-2
-returns-2 c = let z = c .before .before in tail-long (z .args .t1) (z .args .n) (c .if2 .taken)
+returns-2 c = let z = c .before .before in tail-long bytes (z .args .t1) (z .args .n) (c .if2 .taken)
 
 array-share-prefix-held : tie.Need-array-share-prefix-held
 array-share-prefix-held c = search needs
@@ -48,7 +49,7 @@ settled-size-requires c κs = search needs
 
 -- how many of the pending bytes are settled
 size-is : (c : tie.After-settled-size)
-    → let a = c .before .before .before .before .before .args in c .settled-size .result ≡ total size (firstSettled (take (a .n) (a .t1)))
+    → let a = c .before .before .before .before .before .args in c .settled-size .result ≡ total size (firstSettled bytes (take (a .n) (a .t1)))
 size-is c =
     let s = c .before in
     let a = s .before .before .before .before .args in
@@ -59,7 +60,7 @@ returns-3 c =
     let s = c .before in
     let e = s .before .before .before in
     let a = e .before .before .args in
-    tail-settled (a .t1) (a .n) (e .if2 .left) (pending-some (take (a .n) (a .t1)) (λ z. c .if3 .taken (size-is s ∙ z)))
+    tail-settled bytes (a .t1) (a .n) (e .if2 .left) (pending-some bytes (take (a .n) (a .t1)) (λ z. c .if3 .taken (size-is s ∙ z)))
 
 part-is-zero-start : tie.Need-part-is-zero-start
 part-is-zero-start c = search needs
@@ -79,7 +80,7 @@ returns-4 c =
     let a = z .args in
     let p : take (mostPending - a .n) (drop (a .n) (a .t1)) ≡ drop (a .n) (a .t1)
     = take-all (mostPending - a .n) (drop (a .n) (a .t1)) (omega (arith, three z, length-drop (a .n) (a .t1))) in
-    c .is-zero2 .ensures ∙ ap zeros p ∙ tail-rest (a .t1) (a .n) (e .if2 .left) (pending-none (take (a .n) (a .t1)) (sym (size-is s) ∙ g .if3 .left))
+    c .is-zero2 .ensures ∙ ap zeros p ∙ tail-rest bytes (a .t1) (a .n) (e .if2 .left) (pending-none bytes-short (take (a .n) (a .t1)) (sym (size-is s) ∙ g .if3 .left))
 
 pub is-tail-spec : {M : Type 1} → statement M
 is-tail-spec =
