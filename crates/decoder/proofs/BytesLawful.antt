@@ -9,7 +9,7 @@ use Rattle.theory.proofs.Divisions.{parts-pending}
 use Rattle.terms.specs.Limits.{mostRoom, mostDamaged}
 use Rattle.utf8.specs.Bytes.{bytes}
 use Rattle.utf8.proofs.RowsOfBytes.{bytes-division, damage-short}
-use Rattle.utf8_pending.proofs.SettledFirst.{left-kept, left-tail}
+use Rattle.utf8_pending.proofs.SettledFirst.{bytes-short, left-kept, left-tail}
 use Rattle.decoder_shared.specs.Decoding.{Standing}
 use Rattle.decoder_shared.specs.Course.{Call}
 use Rattle.decoder_shared.proofs.Lawful.{Balanced, Lawful}
@@ -21,12 +21,12 @@ use Rattle.decoder.proofs.TestsAsFacts.{is-sound}
 -- the places of a state keep what is pending
 bytes-kept : (s : Standing) → pending bytes (s .left) ≡ true → byteDecoding .stands (byteDecoding .state s) ≡ s
 bytes-kept s p =
-    let e = left-kept (s .left) in
+    let e = left-kept bytes-short (s .left) in
     rw (rw (parts-pending bytes (s .left) p) at e)
 
 bytes-pass : (s : Standing) → Balanced bytes mostDamaged s → sound (byteDecoding .state s) ≡ true
 bytes-pass s b = is-sound (byteDecoding .state s) (record {
-  tail = rw (parts-pending bytes (s .left) (b .begins)) at (left-tail (s .left));
+  tail = rw (parts-pending bytes (s .left) (b .begins)) at (left-tail bytes-short (s .left));
   numbers = record { sum = b .sum; within = b .within; low = b .low; high = b .high; roomy = b .roomy };
 })
 

@@ -62,7 +62,7 @@ answers-still d taken piece out list seam q e held =
 
 module _ (d : Decoder) (seg : First) (seam rest list : List ℕ) (p : Rests d seg seam rest list) where
   abbrev all : List (Segment Kind)
-  all = firstSettled seam ++ parts bytes rest .done
+  all = firstSettled bytes seam ++ parts bytes rest .done
 
   seen : Told seg seam
   seen = told seg seam (p .tells)
@@ -71,10 +71,10 @@ module _ (d : Decoder) (seg : First) (seam rest list : List ℕ) (p : Rests d se
   rests-small = omega (arith, p .sums)
 
   all-need : need all ≡ places seg + need (parts bytes rest .done)
-  all-need = need-append (firstSettled seam) (parts bytes rest .done) ∙ rw (← seen .places-is)
+  all-need = need-append (firstSettled bytes seam) (parts bytes rest .done) ∙ rw (← seen .places-is)
 
   all-size : d .whole + d .damaged + total size all ≤ limit
-  all-size = omega (arith, p .sums, total-append size (firstSettled seam) (parts bytes rest .done), parts-size bytes rest)
+  all-size = omega (arith, p .sums, total-append size (firstSettled bytes seam) (parts bytes rest .done), parts-size bytes rest)
 
   -- how many places they need
   needs : (n : ℕ) → n ≡ places seg + need (parts bytes rest .done) → n ≡ length (behind d seam rest list .kept .out)
@@ -97,20 +97,20 @@ module _ (d : Decoder) (seg : First) (seam rest list : List ℕ) (p : Rests d se
 
       pub seam-ready : Stands seg seam × Fits (d .room) (places seg) (settledSize seg) begins
       seam-ready =
-          (stands seg seam (p .tells), rw (seen .size-is, seen .places-is) (ready-front (d .room) (firstSettled seam) (parts bytes rest .done) begins ready))
+          (stands seg seam (p .tells), rw (seen .size-is, seen .places-is) (ready-front (d .room) (firstSettled bytes seam) (parts bytes rest .done) begins ready))
 
       -- the segment at the seam has acted
       module _ (v : Work) (e : v ≡ acted (d .room) (toldOf seg seam) begins) where
-        seam-acted : v ≡ acted (d .room) (firstSettled seam) begins
+        seam-acted : v ≡ acted (d .room) (firstSettled bytes seam) begins
         seam-acted = e ∙ rw (seen .settled-is)
 
         pub rest-ready : Ready (d .room) (parts bytes rest .done) v
-        rest-ready = rw seam-acted (ready-behind (d .room) (firstSettled seam) (parts bytes rest .done) begins ready)
+        rest-ready = rw seam-acted (ready-behind (d .room) (firstSettled bytes seam) (parts bytes rest .done) begins ready)
 
         -- and so have those of the text
         pub behind-done : (w : Work) → w ≡ acted (d .room) (parts bytes rest .done) v
             → (q : Decoder) → q ≡ keeping (parts bytes rest .left) (w .tally) taken (d .room)
             → Answers d taken (behind d seam rest list) out list (w .out) (w .list) (record { answer = Count (w .tally .written); state = q })
         behind-done w f q held =
-            let g : w ≡ acted (d .room) all begins = f ∙ rw seam-acted (acted-append (d .room) (firstSettled seam) (parts bytes rest .done) begins) in
+            let g : w ≡ acted (d .room) all begins = f ∙ rw seam-acted (acted-append (d .room) (firstSettled bytes seam) (parts bytes rest .done) begins) in
             answers-done d taken (behind d seam rest list) out list w q g (omega (arith, h, needs _ refl)) held

@@ -15,6 +15,7 @@ use Rattle.terms.specs.declared.Decoder.{Decoder}
 use Rattle.terms.specs.declared.First.{First}
 use Rattle.utf8.specs.Bytes.{bytes}
 use Rattle.utf8_pending.specs.Tail.{firstSettled, seamed}
+use Rattle.utf8_pending.proofs.SettledFirst.{bytes-short}
 use Rattle.utf8_pending.proofs.SeamIsFirst.{read-still, read-inside, read-behind}
 use Rattle.decoder_shared.proofs.ChecksInOrder.{Admits, admits}
 use Rattle.decoder.specs.Checks.{admitSays}
@@ -42,22 +43,22 @@ module _ (d : Decoder) (piece list seam : List ℕ) (g : admitSays d (length pie
   long = left-long d three passes
 
   abbrev taken : ℕ
-  taken = total size (firstSettled seam)
+  taken = total size (firstSettled bytes seam)
 
   pub join-within : d .taken + length piece ≤ limit
   join-within = granted .within
 
   -- fewer bytes are settled than are pending: nothing is, and all of it is pending still
   pub join-none : taken < d .pending → fed d piece list ≡ record { left = seam; kept = opened d list .kept }
-  join-none h = ap (streamed d list) (read-still (left d) piece seam (d .pending) (passes .tail .begins) long seam-is h)
+  join-none h = ap (streamed d list) (read-still bytes-short (left d) piece seam (d .pending) (passes .tail .begins) long seam-is h)
 
   -- the segment at the seam reaches over what is pending, and the piece goes on behind it
   module _ (over : d .pending ≤ taken) where
     pub join-inside : taken - d .pending ≤ length piece
-    join-inside = read-inside (left d) piece seam (d .pending) (passes .tail .begins) long seam-is over
+    join-inside = read-inside bytes-short (left d) piece seam (d .pending) (passes .tail .begins) long seam-is over
 
     pub join-behind : fed d piece list ≡ behind d seam (drop (taken - d .pending) piece) list
-    join-behind = ap (streamed d list) (read-behind (left d) piece seam (d .pending) (passes .tail .begins) long seam-is over)
+    join-behind = ap (streamed d list) (read-behind bytes-short (left d) piece seam (d .pending) (passes .tail .begins) long seam-is over)
 
     pub join-rests : (seg : First) → toldFirst seg ≡ firstSays bytes seam → Rests d seg seam (drop (taken - d .pending) piece) list
     join-rests seg e =

@@ -20,17 +20,17 @@ use Rattle.decoder_shared.proofs.TalliedWalk.{firstOf, segment-told}
 use Rattle.decoder.specs.Inside.Acting.{need, places, Stands}
 
 pub record Told (r : First) (text : List ℕ) : Type 0 where
-  pub settled-is : toldOf r text ≡ firstSettled text
-  pub size-is : settledSize r ≡ total size (firstSettled text)
-  pub places-is : places r ≡ need (firstSettled text)
+  pub settled-is : toldOf r text ≡ firstSettled bytes text
+  pub size-is : settledSize r ≡ total size (firstSettled bytes text)
+  pub places-is : places r ≡ need (firstSettled bytes text)
 
 -- the settled segment of pending bytes and a piece is that of the tally
-pub first-is : (text : List ℕ) → firstSettled text ≡ firstOf bytes text
+pub first-is : (text : List ℕ) → firstSettled bytes text ≡ firstOf bytes text
 unfolding firstSettled
 first-is [] = refl
 first-is (x ∷ xs) = refl
 
-pub settled-is : (r : First) (text : List ℕ) → toldFirst r ≡ firstSays bytes text → toldOf r text ≡ firstSettled text
+pub settled-is : (r : First) (text : List ℕ) → toldFirst r ≡ firstSays bytes text → toldOf r text ≡ firstSettled bytes text
 settled-is r text e = segment-told bytes r text e ∙ sym (first-is text)
 
 -- so many bytes as there are, and their places

@@ -18,7 +18,7 @@ use Rattle.utf8.specs.Scalar.{utf8}
 use Rattle.utf8_check.proofs.RunDivides.{Run, run-long, run-size, run-whole, run-settles}
 use Rattle.utf8_check.proofs.RunsPassed.{run-repaired}
 use Rattle.utf8_pending.specs.Tail.{firstSettled, settledSize}
-use Rattle.utf8_pending.proofs.SettledFirst.{settled-parts, settled-inside, settled-none}
+use Rattle.utf8_pending.proofs.SettledFirst.{bytes-short, settled-parts, settled-inside, settled-none}
 use Rattle.decoder_shared.specs.Decoding.{numbers}
 use Rattle.decoder.specs.State.{act}
 use Rattle.decoder.specs.Inside.Acting.{need, places, Work, logOf, reached, Fits, Ready, acted, passed, Settles}
@@ -39,16 +39,16 @@ pub record Turn (text : List ℕ) (n places : ℕ) (next : List (Segment Kind)) 
 
 -- the segment that the reader told of the text
 module _ (text : List ℕ) {r : First} (d : Told r text) where
-  pub told-turn : Turn text (settledSize r) (places r) (firstSettled text)
+  pub told-turn : Turn text (settledSize r) (places r) (firstSettled bytes text)
   told-turn = record {
-    inside = omega (arith, d .size-is, settled-inside text);
-    done-are = ap (λ (p : Parts Kind). p .done) (settled-parts text) ∙ rw (d .size-is);
+    inside = omega (arith, d .size-is, settled-inside bytes-short text);
+    done-are = ap (λ (p : Parts Kind). p .done) (settled-parts bytes-short text) ∙ rw (d .size-is);
     size-is = d .size-is;
     need-is = d .places-is;
   }
 
   told-none : settledSize r ≡ 0 → done text ≡ []
-  told-none z = ap (λ (p : Parts Kind). p .done) (settled-none text (sym (d .size-is) ∙ z) .1)
+  told-none z = ap (λ (p : Parts Kind). p .done) (settled-none bytes-short text (sym (d .size-is) ∙ z) .1)
 
 -- nothing is settled of the empty text
 empty-none : (text : List ℕ) → length text ≡ 0 → done text ≡ []

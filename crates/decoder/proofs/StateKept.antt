@@ -21,7 +21,7 @@ use Rattle.utf8.specs.Bytes.{bytes}
 use Rattle.utf8.specs.Pending.{zeros, padded}
 use Rattle.utf8.specs.Scalar.{utf8}
 use Rattle.utf8.proofs.RowsOfBytes.{bytes-division, damage-short}
-use Rattle.utf8_pending.proofs.SettledFirst.{left-kept, left-tail}
+use Rattle.utf8_pending.proofs.SettledFirst.{bytes-short, left-kept, left-tail}
 use Rattle.decoder_shared.specs.Decoding.{numbers}
 use Rattle.decoder.proofs.TestsAsFacts.{Sound, is-sound}
 use Rattle.decoder.specs.State.{left, sound, byteDecoding, opened, fed, closed}
@@ -54,7 +54,7 @@ module _ (d : Decoder) (three : length (d .held) ≡ mostPending) (s : Sound d) 
       let n = s .numbers in
       let done = parts bytes text .done in
       is-sound (grown d (d .taken + length piece) text) (record {
-        tail = left-tail text;
+        tail = left-tail bytes-short text;
         numbers = record {
           sum = omega (arith, n .sum, whole-damaged isDamage done, parts-size bytes text, length-append (left d) piece, left-long d three s);
           within = within;
@@ -74,7 +74,7 @@ pub grown-append : (d : Decoder) (t taken : ℕ) (text piece : List ℕ)
     → grown (grown d t text) taken (left (grown d t text) ++ piece) ≡ grown d taken (text ++ piece)
 grown-append d t taken text piece =
     rw (
-      left-kept text,
+      left-kept bytes-short text,
       parts-append bytes-division text piece,
       more (wholeOf isDamage),
       more (damagedOf isDamage),

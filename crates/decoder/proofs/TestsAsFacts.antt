@@ -7,6 +7,7 @@ use borrow.Author.Tests.{leb-true, eqb-true, le-leb, eq-eqb}
 use Rattle.theory.proofs.Cases.{split, both}
 use Rattle.terms.specs.Limits.{limit, mostRoom, mostDamaged}
 use Rattle.terms.specs.declared.Decoder.{Decoder}
+use Rattle.utf8.specs.Bytes.{bytes}
 use Rattle.utf8_pending.specs.Tail.{isTail}
 use Rattle.utf8_pending.proofs.HeldInPlaces.{Tail, tail-is, is-tail}
 use Rattle.decoder.specs.Tests.{sound, balanced}
@@ -51,25 +52,25 @@ module _ (d : Decoder) where
 
 -- ---- the pending bytes, and then the numbers
 
-pub sound-not : (d : Decoder) → isTail (d .held) (d .pending) ≡ false → false ≡ sound d
+pub sound-not : (d : Decoder) → isTail bytes (d .held) (d .pending) ≡ false → false ≡ sound d
 sound-not d e = rw e
 
-pub sound-rest : (d : Decoder) → isTail (d .held) (d .pending) ≡ true → balanced d ≡ sound d
+pub sound-rest : (d : Decoder) → isTail bytes (d .held) (d .pending) ≡ true → balanced d ≡ sound d
 sound-rest d e = rw e
 
 -- what the tests say of a state that passes them
 pub record Sound (d : Decoder) : Type 0 where
-  pub tail : Tail (d .held) (d .pending)
+  pub tail : Tail bytes (d .held) (d .pending)
   pub numbers : Balanced d
 
 pub sound-is : (d : Decoder) → sound d ≡ true → Sound d
 sound-is d e =
-    let b = both (isTail (d .held) (d .pending)) (balanced d) e in
-    record { tail = tail-is (d .held) (d .pending) (b .0); numbers = balanced-is d (b .1) }
+    let b = both (isTail bytes (d .held) (d .pending)) (balanced d) e in
+    record { tail = tail-is bytes (d .held) (d .pending) (b .0); numbers = balanced-is d (b .1) }
 
 pub is-sound : (d : Decoder) → Sound d → sound d ≡ true
 is-sound d s =
     let b = s .numbers in
-    sym (sound-rest d (is-tail (d .held) (d .pending) (s .tail)))
+    sym (sound-rest d (is-tail bytes (d .held) (d .pending) (s .tail)))
     ∙ sym (balanced-room d (b .sum) (b .within) (b .low) (b .high))
     ∙ le-leb (d .room) mostRoom (b .roomy)

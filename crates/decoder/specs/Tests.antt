@@ -6,6 +6,7 @@ use lib.ListN.{take}
 use lib.Dec.{leb, eqb}
 use Rattle.terms.specs.Limits.{limit, mostRoom, mostDamaged}
 use Rattle.terms.specs.declared.Decoder.{Decoder}
+use Rattle.utf8.specs.Bytes.{bytes}
 use Rattle.utf8_pending.specs.Tail.{isTail}
 
 -- the pending bytes
@@ -24,4 +25,4 @@ balanced d =
 -- THE TESTS OF A STATE: at most 3 pending bytes, empty or a proper beginning of a well-formed sequence, unused ones 0; and its
 -- numbers balance
 abbrev pub sound : Decoder → Bool
-sound d = isTail (d .held) (d .pending) && balanced d
+sound d = isTail bytes (d .held) (d .pending) && balanced d

@@ -15,7 +15,7 @@ use Rattle.terms.proofs.WalkBySegments.{Seen, seen}
 use Rattle.utf8.specs.Bytes.{bytes}
 use Rattle.utf8.proofs.RowsOfBytes.{bytes-division}
 use Rattle.utf8_pending.specs.Tail.{settledSize}
-use Rattle.utf8_pending.proofs.SettledFirst.{settled-none, told-size}
+use Rattle.utf8_pending.proofs.SettledFirst.{bytes-short, settled-none, told-size}
 use Rattle.decoder_shared.proofs.TalliedWalk.{firstOf}
 use Rattle.decoder.proofs.SettledByReader.{first-is}
 
@@ -25,7 +25,7 @@ module _ (r : First) (text : List ℕ) (e : toldFirst r ≡ firstSays bytes text
 
   -- where nothing is settled
   pub first-none : settledSize r ≡ 0 → parts bytes text .done ≡ []
-  first-none z = ap (λ (p : Parts Kind). p .done) (settled-none text (sym (told-size r text e) ∙ z) .1)
+  first-none z = ap (λ (p : Parts Kind). p .done) (settled-none bytes-short text (sym (told-size r text e) ∙ z) .1)
 
 -- what is told lies in the text
 seen-inside : (text : List ℕ) (n : ℕ) {kind : Kind} {sure : Bool} → Seen bytes text n kind sure → n ≤ length text

@@ -18,7 +18,7 @@ use Rattle.terms.proofs.WalkBySegments.{seen}
 use Rattle.utf8.specs.Bytes.{bytes, rows, loneByte}
 use Rattle.utf8.proofs.RowsOfBytes.{bytes-division}
 use Rattle.utf8_pending.specs.Tail.{firstSettled, seamed}
-use Rattle.utf8_pending.proofs.SettledFirst.{settled-inside, told-size}
+use Rattle.utf8_pending.proofs.SettledFirst.{bytes-short, settled-inside, told-size}
 use Rattle.utf8_pending.proofs.SeamIsFirst.{seamed-empty, read-behind}
 use Rattle.decoder_shared.specs.Inside.Steps.{tallied, toldOf, talliedAs}
 use Rattle.decoder_shared.proofs.SettledIsCut.{Cuttable, Causeless, table-cut, first-of-cut}
@@ -32,12 +32,12 @@ bytes-cut = table-cut rows loneByte
 
 -- what is written for the settled segment of a text is written for it as a text of its own
 head-written : (write : Segment Kind → List ℕ) → Causeless write → (text : List ℕ)
-    → written write (cut bytes (take (total size (firstSettled text)) text)) ≡ written write (firstSettled text)
+    → written write (cut bytes (take (total size (firstSettled bytes text)) text)) ≡ written write (firstSettled bytes text)
 head-written write causeless text = rw (first-is text) (first-of-cut bytes-division bytes-cut write causeless text)
 
 -- a segment that was told is settled, unless nothing is settled of a text that is not empty
-settled-told : (seg : First) (text : List ℕ) → toldFirst seg ≡ firstSays bytes text → (total size (firstSettled text) ≡ 0 → text ≡ [])
-    → sizeOf seg ≡ total size (firstSettled text)
+settled-told : (seg : First) (text : List ℕ) → toldFirst seg ≡ firstSays bytes text → (total size (firstSettled bytes text) ≡ 0 → text ≡ [])
+    → sizeOf seg ≡ total size (firstSettled bytes text)
 settled-told Nothing text e f = told-size Nothing text e
 settled-told (Whole n) text e f = told-size (Whole n) text e
 settled-told (Damage n c) text e f = told-size (Damage n c) text e
@@ -49,13 +49,13 @@ settled-told (Begun n) text e f =
 -- n pending bytes, and the seam as it is read
 module _ (tail piece seam : List ℕ) (n : ℕ) (begins : pending bytes tail ≡ true) (long : length tail ≡ n) (seam-is : seam ≡ seamed tail piece) where
   abbrev taken : ℕ
-  taken = total size (firstSettled seam)
+  taken = total size (firstSettled bytes seam)
 
   abbrev head : List ℕ
   head = take taken seam
 
   pub head-long : length head ≡ taken
-  head-long = length-take-le taken seam (settled-inside seam)
+  head-long = length-take-le taken seam (settled-inside bytes-short seam)
 
   -- the segment at the seam is settled, and the piece goes on behind it
   module _ (h : n ≤ taken) (seg : First) (e : toldFirst seg ≡ firstSays bytes seam) where
@@ -66,14 +66,14 @@ module _ (tail piece seam : List ℕ) (n : ℕ) (begins : pending bytes tail ≡
     pub seam-size : sizeOf seg ≡ length head
     seam-size = told-all ∙ sym head-long
 
-    head-told : toldOf seg head ≡ firstSettled seam
+    head-told : toldOf seg head ≡ firstSettled bytes seam
     head-told = ap (λ (k : ℕ). toldOf seg (take k seam)) (sym told-all) ∙ told-short seg seam ∙ settled-is seg seam e
 
     pub seam-all : total size (toldOf seg head) ≡ length head
     seam-all = rw head-told (sym head-long)
 
     pub seam-divides : parts bytes (tail ++ piece) ≡ before (toldOf seg head) (parts bytes (drop (taken - n) piece))
-    seam-divides = rw head-told (read-behind tail piece seam n begins long seam-is h)
+    seam-divides = rw head-told (read-behind bytes-short tail piece seam n begins long seam-is h)
 
     pub seam-tells : (room : ℕ) (l : Log) → l .out ≡ [] → talliedAs room seg l ≡ tallied room l (toldOf seg head)
     seam-tells room l o = rw (head-told, first-is seam) (told bytes-division seam seg e .tallies room l o)

@@ -16,6 +16,7 @@ use Rattle.utf8.specs.Bytes.{bytes}
 use Rattle.utf8.specs.Scalar.{utf8}
 use Rattle.utf16.specs.Scalar.{utf16}
 use Rattle.utf8_pending.specs.Tail.{firstSettled, seamed}
+use Rattle.utf8_pending.proofs.SettledFirst.{bytes-short}
 use Rattle.utf8_pending.proofs.SeamIsFirst.{read-still, read-inside}
 use Rattle.decoder.specs.Tests.{left}
 use Rattle.decoder.proofs.SeamSettled.{left-long}
@@ -44,14 +45,14 @@ module _ (d : Decoder) (piece list seam : List ℕ) (g : admitSays toUnits d (le
   long = left-long d three passes
 
   abbrev taken : ℕ
-  taken = total size (firstSettled seam)
+  taken = total size (firstSettled bytes seam)
 
   pub join-within : d .taken + length piece ≤ limit
   join-within = granted .within
 
   -- nothing is settled yet: all of the seam is pending
   pub join-still : taken < d .pending → fed toUnits d piece list ≡ behind toUnits d [] seam list
-  join-still h = ap (streamed d list) (read-still (left d) piece seam (d .pending) (passes .tail .begins) long seam-is h)
+  join-still h = ap (streamed d list) (read-still bytes-short (left d) piece seam (d .pending) (passes .tail .begins) long seam-is h)
 
   -- or the segment at the seam is, and the piece goes on behind it
   module _ (h : d .pending ≤ taken) where
@@ -59,7 +60,7 @@ module _ (d : Decoder) (piece list seam : List ℕ) (g : admitSays toUnits d (le
     rest = drop (taken - d .pending) piece
 
     pub join-inside : taken - d .pending ≤ length piece
-    join-inside = read-inside (left d) piece seam (d .pending) (passes .tail .begins) long seam-is h
+    join-inside = read-inside bytes-short (left d) piece seam (d .pending) (passes .tail .begins) long seam-is h
 
     pub join-behind : (seg : First) → toldFirst seg ≡ firstSays bytes seam
         → fed toUnits d piece list ≡ behind toUnits d (toldOf seg (take taken seam) ++ parts bytes rest .done) (parts bytes rest .left) list

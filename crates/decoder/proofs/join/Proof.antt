@@ -8,6 +8,7 @@ use Rattle.theory.specs.Stream.{State}
 use Rattle.theory.specs.Tally.{total, size, Log}
 use Rattle.terms.specs.Limits.{mostPending}
 use Rattle.terms.proofs.WalkBySegments.{part-is}
+use Rattle.utf8.specs.Bytes.{bytes}
 use Rattle.utf8_pending.specs.Tail.{firstSettled}
 use Rattle.utf8_pending.proofs.SettledFirst.{told-size}
 use Rattle.decoder.specs.Inside.Steps.{Rests, behind, Answers}
@@ -41,7 +42,7 @@ keep-requires c κs = search needs
 
 -- how many bytes are settled at the seam
 size-is : (c : tie.After-settled-size)
-    → c .settled-size .result ≡ total size (firstSettled (c .before .before .before .before .before .before .before .args .seam .now))
+    → c .settled-size .result ≡ total size (firstSettled bytes (c .before .before .before .before .before .before .before .args .seam .now))
 size-is c =
     let s = c .before in
     let seam = s .before .before .before .before .before .before .args .seam .now in
@@ -61,7 +62,7 @@ returns c =
 over : (c : tie.Else1)
     → let t = c .before .before in
     let a = t .before .before .before .before .before .before .before .args in
-    a .state .pending ≤ total size (firstSettled (a .seam .now))
+    a .state .pending ≤ total size (firstSettled bytes (a .seam .now))
 over c = omega (arith, size-is (c .before .before), c .if1 .left)
 
 inside : (c : tie.Else1)
@@ -80,7 +81,7 @@ rest-is : (c : tie.Else1)
     let a = t .before .before .before .before .before .before .before .args in
     let from = t .settled-size .result - a .state .pending in
     let piece = a .piece .now in
-    take (length piece - from) (drop from piece) ≡ drop (total size (firstSettled (a .seam .now)) - a .state .pending) piece
+    take (length piece - from) (drop from piece) ≡ drop (total size (firstSettled bytes (a .seam .now)) - a .state .pending) piece
 rest-is c = rw (part-is, size-is (c .before .before))
 
 sub-feed-rest : tie.Need-sub-feed-rest

@@ -34,13 +34,13 @@ keeping rest t taken room = byteDecoding .state (record {
 -- the segment that a seam begins with, as the reader told of it, and a text behind it, which a state may take
 pub record Rests (d : Decoder) (seg : First) (seam rest list : List ℕ) : Type 0 where
   pub tells : toldFirst seg ≡ firstSays bytes seam
-  pub sums : d .whole + d .damaged + total size (firstSettled seam) + length rest ≤ limit
+  pub sums : d .whole + d .damaged + total size (firstSettled bytes seam) + length rest ≤ limit
   pub counts : d .count ≤ d .damaged
   pub row : entryWidth * d .room ≤ length list
 
 -- the stream behind them
 abbrev pub behind : Decoder → List ℕ → List ℕ → List ℕ → State Log
-behind d seam rest = steps.behind byteDecoding d (firstSettled seam ++ parts bytes rest .done) (parts bytes rest .left)
+behind d seam rest = steps.behind byteDecoding d (firstSettled bytes seam ++ parts bytes rest .done) (parts bytes rest .left)
 
 -- what a feed answers where only the output may be too short, and the stream is this one after it
 abbrev pub Answers : Decoder → ℕ → State Log → List ℕ → List ℕ → List ℕ → List ℕ → Fed → Type 0

@@ -10,8 +10,9 @@ use Rattle.terms.specs.Limits.{mostPending}
 use Rattle.terms.specs.Told.{toldWritten}
 use Rattle.terms.proofs.WalkBySegments.{part-is}
 use Rattle.terms.specs.declared.Written.the-variants.{Count}
+use Rattle.utf8.specs.Bytes.{bytes}
 use Rattle.utf8_pending.specs.Tail.{firstSettled}
-use Rattle.utf8_pending.proofs.SettledFirst.{settled-inside, told-size}
+use Rattle.utf8_pending.proofs.SettledFirst.{bytes-short, settled-inside, told-size}
 use Rattle.decoder_shared.specs.Inside.Steps.{Answers}
 use Rattle.decoder_shared.proofs.FeedAnswers.{answers-still}
 use Rattle.decoder_to_utf16.specs.State.{toUnits}
@@ -46,7 +47,7 @@ abbrev start : tie.After-settled-size → tie.Start
 start t = t .before .before .before .before .before .before .before
 
 -- how many bytes are settled at the seam
-size-is : (t : tie.After-settled-size) → t .settled-size .result ≡ total size (firstSettled (start t .args .seam .now))
+size-is : (t : tie.After-settled-size) → t .settled-size .result ≡ total size (firstSettled bytes (start t .args .seam .now))
 size-is t = let s = t .before in t .settled-size .ensures ∙ told-size (s .first-of .result) (start t .args .seam .now) (s .first-of .ensures)
 
 returns : tie.Need-returns
@@ -62,7 +63,7 @@ returns c =
     (rw (c .before .open-tally .ensures) at (c .keep .ensures)))
 
 -- the segment reaches over what is pending, and ends in the piece
-over : (c : tie.Else1) → let a = start (c .before .before) .args in a .state .pending ≤ total size (firstSettled (a .seam .now))
+over : (c : tie.Else1) → let a = start (c .before .before) .args in a .state .pending ≤ total size (firstSettled bytes (a .seam .now))
 over c = omega (arith, size-is (c .before .before), c .if1 .left)
 
 inside : (c : tie.Else1) → let t = c .before .before in t .settled-size .result - start t .args .state .pending ≤ length (start t .args .piece .now)
@@ -76,7 +77,7 @@ slice-aggregate-feed-rest : tie.Need-slice-aggregate-feed-rest
 slice-aggregate-feed-rest c =
     let t = c .before .before .before .before in
     let seam = start t .args .seam .now in
-    sym (length-take-le (t .settled-size .result) seam (omega (arith, size-is t, settled-inside seam)))
+    sym (length-take-le (t .settled-size .result) seam (omega (arith, size-is t, settled-inside bytes-short seam)))
 
 sub-feed-rest : tie.Need-sub-feed-rest
 sub-feed-rest c = inside (c .before .before)

@@ -14,7 +14,7 @@ use Rattle.utf8.specs.Classes.{classes}
 use Rattle.utf8.proofs.ClassesRead.{table, by-table}
 use Rattle.utf8_check.proofs.RunDivides.{Run}
 use Rattle.utf8_check.proofs.RunsPassed.{run-paced}
-use Rattle.utf8_pending.proofs.SettledFirst.{settled-inside, told-size}
+use Rattle.utf8_pending.proofs.SettledFirst.{bytes-short, settled-inside, told-size}
 use Rattle.decoder_to_utf16.specs.Inside.Tallying.{logOf}
 use Rattle.decoder_to_utf16.proofs.TallyOfBytes.{Left, left-start, left-inside, told-fits, told-next, told-end, run-room, run-next}
 use Rattle.decoder_to_utf16.proofs.tally.walk_on.Statement.{statement}
@@ -91,7 +91,7 @@ counted k =
 inside : (t : tie.After-settled-size Inv-loop μ-loop) → t .settled-size .result ≤ length (t .before .before .before .loop .rest .now)
 inside t =
     let rest = t .before .before .before .loop .rest .now in
-    rw (t .settled-size .ensures ∙ told-size (t .before .segment-by .result) rest (says (t .before))) (settled-inside rest)
+    rw (t .settled-size .ensures ∙ told-size (t .before .segment-by .result) rest (says (t .before))) (settled-inside bytes-short rest)
 
 sub-behind : tie.Need-sub-behind Inv-loop μ-loop
 sub-behind c = inside (c .before .before .before .before .before)
