@@ -22,7 +22,7 @@ use Rattle.terms.specs.declared.Refusal.{Refusal}
 use Rattle.terms.specs.declared.Written.the-variants as the-written
 use Rattle.utf8.specs.Bytes.{bytes}
 use Rattle.utf8.specs.Scalar.{utf8}
-use Rattle.utf8_pending.proofs.SettledFirst.{left-short}
+use Rattle.utf8_pending.proofs.SettledFirst.{bytes-short, left-short}
 use Rattle.decoder_shared.proofs.ChecksInOrder.{admitted-over, admitted-list, admitted-then}
 use Rattle.decoder.specs.Checks.{admitted}
 use Rattle.decoder.proofs.TestsAsFacts.{Sound, sound-is, is-sound}
@@ -151,7 +151,7 @@ mended (s ∷ ss) h =
 settles-some : (d : Decoder) (piece list : List ℕ) → mostPending < length piece → 0 < length (fed d piece list .kept .out)
 settles-some d piece list h =
     let text : List ℕ = left d ++ piece in
-    let m : 0 < total size (parts bytes text .done) = omega (arith, h, parts-size bytes text, left-short text, length-append (left d) piece) in
+    let m : 0 < total size (parts bytes text .done) = omega (arith, h, parts-size bytes text, left-short bytes-short text, length-append (left d) piece) in
     rw (fed-form byteDecoding d list piece) (mended (parts bytes text .done) m)
 
 pub places-refused : (d : Decoder) → sound d ≡ true → (list : List ℕ) → numberOf d (mostPending + 1) [] list ≡ dueTo d (mostPending + 1) (length list)
