@@ -3,6 +3,7 @@ ghost use mathlib.Core.Path.{_≡_};
 ghost use mathlib.Core.Bool.{cond};
 ghost use lib.Dec.{ltb};
 ghost use Rattle.terms.specs.Told.{bit};
+ghost use Rattle.utf8.specs.Bytes.{bytes};
 ghost use Rattle.utf8.specs.Pending.{padded};
 ghost use Rattle.utf8_pending.specs.Tail.{settledSize, isTail, seamOf};
 ghost use Rattle.bridge_numbers.specs.Telling.{roomy, notCalled, Tells};
@@ -12,7 +13,7 @@ ghost use Rattle.bridge_numbers.specs.Answers.{three, seamNumbers};
 // utf8_pending::is_tail: 1 for yes, 0 for no.
 #[no_mangle]
 pub extern "C" fn bridge_pending_is_tail(held: &[usize], n: usize) -> usize
-    ensures { λ r. ⌜ r ≡ cond (isState 3 (now (held .entry))) (bit (isTail (heldOf (now (held .entry))) n)) notCalled ⌝ }
+    ensures { λ r. ⌜ r ≡ cond (isState 3 (now (held .entry))) (bit (isTail bytes (heldOf (now (held .entry))) n)) notCalled ⌝ }
 {
     if !bridge_numbers::states::is_state(held, 3) {
         return bridge_numbers::telling::NOT_CALLED;

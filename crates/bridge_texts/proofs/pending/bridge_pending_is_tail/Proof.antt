@@ -5,6 +5,7 @@ use mathlib.Core.Bool.{true}
 use borrow.Author.Tests.{not-true, not-false}
 use mathlib.Core.List.{List}
 use Rattle.terms.specs.Told.{bit}
+use Rattle.utf8.specs.Bytes.{bytes}
 use Rattle.utf8_pending.specs.Tail.{isTail}
 use Rattle.bridge_numbers.specs.States.{isState}
 use borrow.Author.Needs.{needs}
@@ -35,7 +36,7 @@ number-of-requires c κs = search needs
 returns-2 : tie.Need-returns-2
 returns-2 c =
     let a = c .before .before .before .before .before .before .args in
-    rw (passed (c .before .before .before)) (c .number-of .ensures ∙ ap bit (c .before .is-tail .ensures ∙ ap (λ (l : List ℕ). isTail l (a .n)) (c .before .before .held-of .ensures)))
+    rw (passed (c .before .before .before)) (c .number-of .ensures ∙ ap bit (c .before .is-tail .ensures ∙ ap (λ (l : List ℕ). isTail bytes l (a .n)) (c .before .before .held-of .ensures)))
 
 pub bridge-pending-is-tail-spec : {M : Type 1} → statement M
 bridge-pending-is-tail-spec =
