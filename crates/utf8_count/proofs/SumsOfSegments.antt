@@ -1,18 +1,18 @@
--- THE LAW OF THE SUMS: where all segments of a byte text are whole, its counts are those of its segments.
+-- THE LAW OF THE SUMS: where all segments of a byte text are whole, its sums are those of its segments.
 use mathlib.Core.Path.{_≡_, refl, sym, ap, _∙_}
 use Prim.Native.Nat.{ℕ, _+_, _≤_, _<_}
 use mathlib.Core.Bool.{true, cond}
 use mathlib.Core.List.{List, [], _∷_, _++_}
 use lib.ListN.{length, take, drop, length-drop, take-append-drop}
 use lib.Seq.{length-take-le}
-use lib.Dec.{leb, ltb, eqb}
-use borrow.Author.Tests.{le-leb, lt-leb, lt-ltb, le-ltb, leb-true, ltb-true, eqb-true, ne-eqb}
+use lib.Dec.{leb, ltb}
+use borrow.Author.Tests.{le-leb, lt-leb, lt-ltb, le-ltb, leb-true, ltb-true}
 use native.Mathlib.Omega.{arith}
 use Rattle.theory.specs.Reader.{first, rest, cut}
 use Rattle.theory.specs.Table.{whole}
 use Rattle.theory.specs.Sequence.{Sequence}
 use Rattle.theory.specs.Tally.{total}
-use Rattle.theory.proofs.Cases.{All, split, both}
+use Rattle.theory.proofs.Cases.{All, both}
 use Rattle.theory.proofs.Divisions.{total-append, cut-nil, cut-cons, by-segments}
 use Rattle.theory.proofs.SequencesAreWhole.{by-rows, whole-sequence, cut-sequence}
 use Rattle.terms.specs.Form.{pointOf}
@@ -21,7 +21,7 @@ use Rattle.utf8_scan.specs.Stands.{isLater}
 use Rattle.utf8.specs.Bytes.{rows, loneByte, bytes}
 use Rattle.utf8.specs.Scalar.{number, utf8}
 use Rattle.utf8.proofs.RowsOfBytes.{rows-sound, bytes-division}
-use Rattle.utf8_count.specs.Counts.{startOf, fourOf, endOf}
+use Rattle.utf8_count.specs.Counts.{startOf, fourOf}
 
 -- ---- the first byte of a whole segment, and the later ones
 
@@ -77,19 +77,19 @@ formed = by-rows rows Formed
     (λ x a y b z d t e. high-four x y z t (omega arith) (omega arith) d e (omega arith))
 
 -- a later byte counts nothing
-later-none : (y : ℕ) → isLater y ≡ true → (startOf y ≡ 0) × (fourOf y ≡ 0) × (endOf y ≡ 0)
+later-none : (y : ℕ) → isLater y ≡ true → (startOf y ≡ 0) × (fourOf y ≡ 0)
 later-none y e =
     let b = both (leb 0x80 y) (ltb y 0xC0) e in
     let l : 0x80 ≤ y = leb-true 0x80 y (b .0) in
     let h : y < 0xC0 = ltb-true y 0xC0 (b .1) in
-    rw (e, lt-leb 0xF0 y (omega arith), ne-eqb y 0x0A (omega arith)) (refl, refl, refl)
+    rw (e, lt-leb 0xF0 y (omega arith)) (refl, refl)
 
-pub laters-none : (ys : List ℕ) → Laters ys → (total startOf ys ≡ 0) × (total fourOf ys ≡ 0) × (total endOf ys ≡ 0)
-laters-none [] a = (refl, refl, refl)
+pub laters-none : (ys : List ℕ) → Laters ys → (total startOf ys ≡ 0) × (total fourOf ys ≡ 0)
+laters-none [] a = (refl, refl)
 laters-none (y ∷ ys) a =
     let n = later-none y (a .0) in
     let m = laters-none ys (a .1) in
-    (omega (arith, n .0, m .0), omega (arith, n .1, m .1), omega (arith, n .2, m .2))
+    (omega (arith, n .0, m .0), omega (arith, n .1, m .1))
 
 -- ---- one whole segment, whatever follows it
 
@@ -110,7 +110,6 @@ module _ (x : ℕ) (xs : List ℕ) (w : bytes x xs .tag ≡ whole) where
 pub record BySegments (text : List ℕ) : Type 0 where
   pub starts-are : total startOf text ≡ total (λ s. 1) (cut bytes text)
   pub units-are : total startOf text + total fourOf text ≡ total (λ s. unitsOf (pointOf utf8 s)) (cut bytes text)
-  pub ends-are : total endOf text ≡ total (λ s. endOf (s .head)) (cut bytes text)
   pub few : total startOf text + total fourOf text ≤ length text
 
 total-rest : (f : ℕ → ℕ) (n x : ℕ) (xs : List ℕ) → total f (x ∷ xs) ≡ f x + (total f (take n xs) + total f (drop n xs))
@@ -118,7 +117,7 @@ total-rest f n x xs = ap (λ (ys : List ℕ). f x + total f ys) (sym (take-appen
 
 pub by-wholes : (text : List ℕ) → AllWhole (cut bytes text) → BySegments text
 by-wholes = by-segments bytes (λ (text : List ℕ). AllWhole (cut bytes text) → BySegments text)
-    (λ w. record { starts-are = rw cut-nil; units-are = rw cut-nil; ends-are = rw cut-nil; few = omega arith })
+    (λ w. record { starts-are = rw cut-nil; units-are = rw cut-nil; few = omega arith })
     (λ x xs ih w.
     let v : AllWhole (first bytes x xs ∷ cut bytes (rest bytes x xs)) = rw (cut-cons bytes x xs) at w in
     let r = ih (v .1) in
@@ -130,15 +129,5 @@ by-wholes = by-segments bytes (λ (text : List ℕ). AllWhole (cut bytes text) �
     record {
       starts-are = rw (cut-cons bytes x xs) (omega (arith, total-rest startOf n x xs, f .0, z, r .starts-are));
       units-are = rw (cut-cons bytes x xs, v .0) (omega (arith, total-rest startOf n x xs, total-rest fourOf n x xs, f .0, z, r .units-are));
-      ends-are = rw (cut-cons bytes x xs) (omega (arith, total-rest endOf n x xs, z, r .ends-are));
       few = omega (arith, total-rest startOf n x xs, total-rest fourOf n x xs, f .0, z, r .few, length-drop n xs, l, m);
     })
-
--- a line's end is no later byte
-pub ends-few : (text : List ℕ) → total endOf text ≤ total startOf text
-ends-few [] = omega arith
-ends-few (x ∷ xs) = split (eqb x 0x0A)
-    (λ e.
-    let x-is : x ≡ 0x0A = eqb-true x 0x0A e in
-    rw e (omega (arith, first-low x x 0 (omega arith) (omega arith) .0, ends-few xs)))
-    (λ e. rw e (omega (arith, ends-few xs)))

@@ -1,4 +1,4 @@
--- What each byte of a text counts by itself
+-- What a text counts
 pub mod Counts
 -- What private steps promise each other
 pub mod Inside

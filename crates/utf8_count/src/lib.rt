@@ -1,15 +1,18 @@
-// Three counts over a byte text, a block of 128 at a time: bytes that are no later bytes, bytes of 0xF0 or
-// more, and line ends.
+// Counts over a byte text, a block of 128 at a time: bytes that are no later bytes, bytes of 0xF0 or more, and
+// line ends.
+mod lines;
+
+pub use lines::end_first;
+pub use lines::line_ends;
 ghost use mathlib.Core.Path.{_≡_};
 ghost use Prim.Native.Nat.{_≤_};
 ghost use lib.ListN.{length, take};
-ghost use Rattle.utf8_count.specs.Counts.{startOf, fourOf, endOf, sumsOf};
+ghost use Rattle.utf8_count.specs.Counts.{startOf, fourOf, sumsOf};
 
-// How many bytes are no later bytes, how many are 0xF0 or more, and how many are 0x0A.
+// How many bytes are no later bytes, and how many are 0xF0 or more.
 pub struct Sums {
     pub starts: usize,
     pub fours: usize,
-    pub ends: usize,
 }
 
 fn start_of(b: u8) -> u8
@@ -30,12 +33,6 @@ fn four_of(b: u8) -> u8
     if 0xF0 <= b { 1 } else { 0 }
 }
 
-fn end_of(b: u8) -> u8
-    ensures { λ r. ⌜ r ≡ endOf b ⌝ }
-{
-    if b == 0x0A { 1 } else { 0 }
-}
-
 fn wide(n: u8) -> usize
     ensures { λ r. ⌜ r ≡ n ⌝ }
 {
@@ -49,16 +46,13 @@ fn block(text: &[u8]) -> Sums
 {
     let mut starts: u8 = 0;
     let mut fours: u8 = 0;
-    let mut ends: u8 = 0;
     for k in 0..128 {
         starts += start_of(text[k]);
         fours += four_of(text[k]);
-        ends += end_of(text[k]);
     }
     Sums {
         starts: wide(starts),
         fours: wide(fours),
-        ends: wide(ends),
     }
 }
 
@@ -76,32 +70,25 @@ fn rest(text: &[u8]) -> Sums
     block(&row)
 }
 
-// The three counts of a text.
+// The sums of a text.
 pub fn count(text: &[u8]) -> Sums
     ensures { λ r. ⌜ r ≡ sumsOf (now (text .entry)) ⌝ }
 {
     let mut starts: usize = 0;
     let mut fours: usize = 0;
-    let mut ends: usize = 0;
     let mut at: usize = 0;
     while 128 <= text.len() - at {
         let s = block(&text[at..]);
         starts += s.starts;
         fours += s.fours;
-        ends += s.ends;
         at += 128;
     }
     if at == text.len() {
-        return Sums {
-            starts,
-            fours,
-            ends,
-        };
+        return Sums { starts, fours };
     }
     let s = rest(&text[at..]);
     Sums {
         starts: starts + s.starts,
         fours: fours + s.fours,
-        ends: ends + s.ends,
     }
 }

@@ -3,15 +3,15 @@ use Prim.Native.Nat.{_-_, _≤_}
 use lib.ListN.{getD}
 use native.Mathlib.Omega.{arith}
 use borrow.Author.Needs.{needs}
-use Rattle.utf8_count.proofs.CountsByBlocks.{start-few, four-few, end-few, Counted, counted-none, counted-next, counted-sums}
+use Rattle.utf8_count.proofs.CountsByBlocks.{start-few, four-few, Counted, counted-none, counted-next, counted-sums}
 use Rattle.utf8_count.proofs.block.Statement.{statement}
 use Rattle.utf8_count.proofs.block.Tie as tie
 
 abbrev Inv-loop : tie.InvT-loop
-Inv-loop text starts₀ fours₀ ends₀ k₀ starts fours ends k = (k ≤ 128) × Counted text k starts fours ends
+Inv-loop text starts₀ fours₀ k₀ starts fours k = (k ≤ 128) × Counted text k starts fours
 
 abbrev μ-loop : tie.MeasureT-loop
-μ-loop text starts₀ fours₀ ends₀ k₀ starts fours ends k = 128 - k
+μ-loop text starts₀ fours₀ k₀ starts fours k = 128 - k
 
 loop-holds : tie.Need-loop-holds Inv-loop μ-loop
 loop-holds c = (omega arith, counted-none (c .before .args .text .now))
@@ -38,17 +38,6 @@ add-fours c =
     let l = c .before .before .before .before .before in
     omega (arith, l .loop .inv .1 .fours-few, c .four-of .ensures, four-few (getD (l .before .before .args .text .now) (l .loop .k) 0))
 
-shared-slice-read-end-of : tie.Need-shared-slice-read-end-of Inv-loop μ-loop
-shared-slice-read-end-of c = search needs
-
-end-of-requires : tie.Need-end-of-requires Inv-loop μ-loop
-end-of-requires c κs = search needs
-
-add-ends : tie.Need-add-ends Inv-loop μ-loop
-add-ends c =
-    let l = c .before .before .before .before .before .before .before in
-    omega (arith, l .loop .inv .1 .ends-few, c .end-of .ensures, end-few (getD (l .before .before .args .text .now) (l .loop .k) 0))
-
 add-k : tie.Need-add-k Inv-loop μ-loop
 add-k c = search needs
 
@@ -57,12 +46,11 @@ loop-less c = search needs
 
 loop-again : tie.Need-loop-again Inv-loop μ-loop
 loop-again c =
-    let f = c .before .before in
-    let s = f .before .before in
+    let s = c .before .before in
     let l = s .before .before .before in (
       omega arith,
-      rw (s .start-of .ensures, f .four-of .ensures, c .end-of .ensures)
-          (counted-next (l .before .before .args .text .now) (l .loop .k) (l .loop .starts) (l .loop .fours) (l .loop .ends) (l .loop .inv .1) (omega arith)),
+      rw (s .start-of .ensures, c .four-of .ensures)
+          (counted-next (l .before .before .args .text .now) (l .loop .k) (l .loop .starts) (l .loop .fours) (l .loop .inv .1) (omega arith)),
     )
 
 wide-requires : tie.Need-wide-requires Inv-loop μ-loop
@@ -71,16 +59,12 @@ wide-requires c κs = search needs
 wide-requires-2 : tie.Need-wide-requires-2 Inv-loop μ-loop
 wide-requires-2 c κs = search needs
 
-wide-requires-3 : tie.Need-wide-requires-3 Inv-loop μ-loop
-wide-requires-3 c κs = search needs
-
 returns : tie.Need-returns Inv-loop μ-loop
 returns c =
-    let v = c .before in
-    let u = v .before in
+    let u = c .before in
     let l = u .before .before in
-    rw (u .wide .ensures, v .wide2 .ensures, c .wide3 .ensures)
-    (counted-sums (l .before .before .args .text .now) (l .loop .k) (l .loop .starts) (l .loop .fours) (l .loop .ends) (l .loop .inv .1) 128 (omega arith))
+    rw (u .wide .ensures, c .wide2 .ensures)
+    (counted-sums (l .before .before .args .text .now) (l .loop .k) (l .loop .starts) (l .loop .fours) (l .loop .inv .1) 128 (omega arith))
 
 pub block-spec : {M : Type 1} → statement M
 block-spec =
@@ -95,13 +79,9 @@ block-spec =
     shared-slice-read-four-of
     four-of-requires
     add-fours
-    shared-slice-read-end-of
-    end-of-requires
-    add-ends
     add-k
     loop-less
     loop-again
     wide-requires
     wide-requires-2
-    wide-requires-3
     returns)

@@ -1,4 +1,4 @@
--- `count` meets its contract: the counts of the blocks passed, and of the rest.
+-- `count` meets its contract: the sums of the blocks passed, and of the rest.
 use Prim.Native.Nat.{_+_, _-_}
 use lib.ListN.{length, length-drop}
 use native.Mathlib.Omega.{arith}
@@ -9,10 +9,10 @@ use Rattle.utf8_count.proofs.count.Statement.{statement}
 use Rattle.utf8_count.proofs.count.Tie as tie
 
 abbrev Inv-loop : tie.InvT-loop
-Inv-loop text starts₀ fours₀ ends₀ at₀ starts fours ends at = Counted text at starts fours ends
+Inv-loop text starts₀ fours₀ at₀ starts fours at = Counted text at starts fours
 
 abbrev μ-loop : tie.MeasureT-loop
-μ-loop text starts₀ fours₀ ends₀ at₀ starts fours ends at = length text - at
+μ-loop text starts₀ fours₀ at₀ starts fours at = length text - at
 
 loop-holds : tie.Need-loop-holds Inv-loop μ-loop
 loop-holds c = counted-none (c .before .args .text .now)
@@ -40,12 +40,12 @@ blocked : (c : tie.After-block Inv-loop μ-loop)
     → let l = c .before .before .before in
     let s = c .block .result in
     Counted (l .before .before .args .text .now) (l .loop .at + 128)
-    (l .loop .starts + s .starts) (l .loop .fours + s .fours) (l .loop .ends + s .ends)
+    (l .loop .starts + s .starts) (l .loop .fours + s .fours)
 blocked c =
     let i = c .before .before in
     let l = i .before in
     let text = l .before .before .args .text .now in
-    counted-more text (l .loop .at) (l .loop .starts) (l .loop .fours) (l .loop .ends) (l .loop .inv) 128
+    counted-more text (l .loop .at) (l .loop .starts) (l .loop .fours) (l .loop .inv) 128
     (omega (arith, i .loop-test .taken)) (c .block .result) (rw (part-is text (l .loop .at)) at (c .block .ensures))
 
 add-starts : tie.Need-add-starts Inv-loop μ-loop
@@ -54,24 +54,21 @@ add-starts c = let b = blocked (c .before) in omega (arith, b .starts-few, b .in
 add-fours : tie.Need-add-fours Inv-loop μ-loop
 add-fours c = let b = blocked (c .before .before) in omega (arith, b .fours-few, b .inside, c .before .before .before .before .before .before .before .good)
 
-add-ends : tie.Need-add-ends Inv-loop μ-loop
-add-ends c = let b = blocked (c .before .before .before) in omega (arith, b .ends-few, b .inside, c .before .before .before .before .before .before .before .before .good)
-
 add-at : tie.Need-add-at Inv-loop μ-loop
 add-at c =
-    let b = blocked (c .before .before .before) in
-    omega (arith, b .inside, c .before .before .before .before .before .before .before .before .good)
+    let b = blocked (c .before .before) in
+    omega (arith, b .inside, c .before .before .before .before .before .before .before .good)
 
 loop-less : tie.Need-loop-less Inv-loop μ-loop
-loop-less c = let b = blocked (c .before .before .before) in omega (arith, b .inside)
+loop-less c = let b = blocked (c .before .before) in omega (arith, b .inside)
 
 loop-again : tie.Need-loop-again Inv-loop μ-loop
-loop-again c = blocked (c .before .before .before)
+loop-again c = blocked (c .before .before)
 
 returns : tie.Need-returns Inv-loop μ-loop
 returns c =
     let l = c .before .before in
-    counted-all (l .before .before .args .text .now) (l .loop .at) (l .loop .starts) (l .loop .fours) (l .loop .ends) (l .loop .inv) (c .if1 .taken)
+    counted-all (l .before .before .args .text .now) (l .loop .at) (l .loop .starts) (l .loop .fours) (l .loop .inv) (c .if1 .taken)
 
 sub-rest : tie.Need-sub-rest Inv-loop μ-loop
 sub-rest c = search needs
@@ -93,30 +90,27 @@ ended : (c : tie.After-rest Inv-loop μ-loop)
     → let l = c .before .before .before .before in
     let text = l .before .before .args .text .now in
     let s = c .rest .result in
-    Counted text (l .loop .at + (length text - l .loop .at)) (l .loop .starts + s .starts) (l .loop .fours + s .fours) (l .loop .ends + s .ends)
+    Counted text (l .loop .at + (length text - l .loop .at)) (l .loop .starts + s .starts) (l .loop .fours + s .fours)
 ended c =
     let l = c .before .before .before .before in
     let text = l .before .before .args .text .now in
-    counted-more text (l .loop .at) (l .loop .starts) (l .loop .fours) (l .loop .ends) (l .loop .inv)
+    counted-more text (l .loop .at) (l .loop .starts) (l .loop .fours) (l .loop .inv)
     (length text - l .loop .at) (omega (arith, l .loop .inv .inside)) (c .rest .result) (c .rest .ensures)
 
-add-t14 : tie.Need-add-t14 Inv-loop μ-loop
-add-t14 c = let b = ended (c .before) in omega (arith, b .starts-few, b .inside, c .before .before .before .before .before .before .before .good)
+add-t13 : tie.Need-add-t13 Inv-loop μ-loop
+add-t13 c = let b = ended (c .before) in omega (arith, b .starts-few, b .inside, c .before .before .before .before .before .before .before .good)
 
-add-t19 : tie.Need-add-t19 Inv-loop μ-loop
-add-t19 c = let b = ended (c .before .before) in omega (arith, b .fours-few, b .inside, c .before .before .before .before .before .before .before .before .good)
-
-add-t20 : tie.Need-add-t20 Inv-loop μ-loop
-add-t20 c = let b = ended (c .before .before .before) in omega (arith, b .ends-few, b .inside, c .before .before .before .before .before .before .before .before .before .good)
+add-t18 : tie.Need-add-t18 Inv-loop μ-loop
+add-t18 c = let b = ended (c .before .before) in omega (arith, b .fours-few, b .inside, c .before .before .before .before .before .before .before .before .good)
 
 returns-2 : tie.Need-returns-2 Inv-loop μ-loop
 returns-2 c =
-    let r = c .before .before .before in
+    let r = c .before .before in
     let l = r .before .before .before .before in
     let text = l .before .before .args .text .now in
     let s = r .rest .result in
     counted-all text (l .loop .at + (length text - l .loop .at))
-    (l .loop .starts + s .starts) (l .loop .fours + s .fours) (l .loop .ends + s .ends) (ended r) (omega (arith, l .loop .inv .inside))
+    (l .loop .starts + s .starts) (l .loop .fours + s .fours) (ended r) (omega (arith, l .loop .inv .inside))
 
 pub count-spec : {M : Type 1} → statement M
 count-spec =
@@ -132,7 +126,6 @@ count-spec =
     block-requires
     add-starts
     add-fours
-    add-ends
     add-at
     loop-less
     loop-again
@@ -141,7 +134,6 @@ count-spec =
     part-rest-start
     part-rest-end
     rest-requires
-    add-t14
-    add-t19
-    add-t20
+    add-t13
+    add-t18
     returns-2)

@@ -1,0 +1,19 @@
+-- `odd_of` meets its contract: it is the definition, built of picks.
+use borrow.Author.Needs.{needs}
+use Rattle.utf8_count.proofs.lines.odd_of.Statement.{statement}
+use Rattle.utf8_count.proofs.lines.odd_of.Tie as tie
+
+pick-requires : tie.Need-pick-requires
+pick-requires c κs = search needs
+
+pick-requires-2 : tie.Need-pick-requires-2
+pick-requires-2 c κs = search needs
+
+pick-requires-3 : tie.Need-pick-requires-3
+pick-requires-3 c κs = search needs
+
+returns : tie.Need-returns
+returns c = rw (c .pick3 .ensures, c .before .pick2 .ensures, c .before .before .pick .ensures)
+
+pub odd-of-spec : {M : Type 1} → statement M
+odd-of-spec = tie.close (tie.spec pick-requires pick-requires-2 pick-requires-3 returns)
