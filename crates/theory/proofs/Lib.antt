@@ -4,6 +4,8 @@ pub mod Cases
 pub mod EveryEntry
 -- The laws of a division: its equations, induction by segments, that it loses nothing, and the law of a stream
 pub mod Divisions
+-- A READER OF LINES DIVIDES AS THE READER BELOW IT: the same segments, and little held back
+pub mod LinesDivide
 -- A piece more of a stream, over any division and any action of a segment
 pub mod PieceMore
 -- THE LAW OF CALLS: what every granted call keeps holds after any calls, with refused ones between them; and calls that feed a stream leave the one of the joined text

@@ -12,5 +12,7 @@ pub mod Place
 pub mod Index
 -- Readers by a table of well-formed sequences, as the Unicode Standard's table 3-7: a row has a range for each element
 pub mod Table
+-- A reader of lines: the segments of any reader, and of each whether a line ends behind it
+pub mod Lines
 -- The paper's words for a table's segments
 pub mod Sequence
