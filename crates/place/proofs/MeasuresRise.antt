@@ -15,6 +15,7 @@ use Rattle.theory.specs.Table.{Kind, whole, damage}
 use Rattle.theory.specs.Tally.{total, size}
 use Rattle.theory.specs.Sequence.{Sequence}
 use Rattle.theory.specs.Place.{Ruler}
+use Rattle.theory.specs.Lines.{bare}
 use Rattle.theory.proofs.Cases.{split}
 use Rattle.theory.proofs.Divisions.{Division, first-size, cut-nil, cut-cons}
 use Rattle.theory.proofs.SequencesAreWhole.{by-rows, whole-sequence}
@@ -25,7 +26,7 @@ use Rattle.utf8.specs.Bytes.{rows, loneByte, bytes}
 use Rattle.utf8.specs.Scalar.{number, utf8}
 use Rattle.utf8.proofs.RowsOfBytes.{damage-short, rows-sound}
 use Rattle.place.proofs.ReaderDivides.{reader-division}
-use Rattle.place.specs.Measures.{unitsOf, linesOf, ruler}
+use Rattle.place.specs.Measures.{Tag, reader, unitsOf, linesOf, ruler}
 use Rattle.place.specs.Walk.{unitsBySize}
 use Rattle.place.specs.declared.Place.{Place}
 
@@ -52,11 +53,11 @@ pub measured : Measured ruler
 measured = record { none = refl; sized = λ p s. refl }
 
 -- a segment is one unit or two, and ends one line or none
-pub one-or-two : (s : Segment Kind) → (1 ≤ unitsOf s) × (unitsOf s ≤ 2)
-one-or-two s = split (ltb (pointOf utf8 s) 0x10000) (λ e. rw e (omega arith)) (λ e. rw e (omega arith))
+pub one-or-two : (s : Segment Tag) → (1 ≤ unitsOf s) × (unitsOf s ≤ 2)
+one-or-two s = split (ltb (pointOf utf8 (bare s)) 0x10000) (λ e. rw e (omega arith)) (λ e. rw e (omega arith))
 
-pub one-or-none : (s : Segment Kind) → linesOf s ≤ 1
-one-or-none s = split (eqb (s .head) 0x0A) (λ e. rw e (omega arith)) (λ e. rw e (omega arith))
+pub one-or-none : (s : Segment Tag) → linesOf s ≤ 1
+one-or-none s = split (s .tag .ends) (λ e. rw e (omega arith)) (λ e. rw e (omega arith))
 
 -- a measure that is 0 at the start and rises with every segment
 pub record Rising (m : Place → ℕ) : Type 0 where
@@ -99,11 +100,11 @@ unfolding bytes
 whole-by-length x xs e = by-length (body (first bytes x xs)) (whole-sequence rows loneByte rows-sound x xs e)
 
 -- TWO UNITS EXACTLY IF FOUR BYTES: a whole segment by its number, and damage is shorter
-pub units-by-size : (x : ℕ) (xs : List ℕ) → unitsOf (first bytes x xs) ≡ unitsBySize (size (first bytes x xs))
+pub units-by-size : (x : ℕ) (xs : List ℕ) → unitsOf (first reader x xs) ≡ unitsBySize (size (first reader x xs))
 units-by-size x xs = of-tag (bytes x xs .tag) refl
   where
-    s : Segment Kind
-    s = first bytes x xs
+    s : Segment Tag
+    s = first reader x xs
 
     by-number : (c n : ℕ) → ((c < 0x10000) × (n < 4)) ⊎ ((0x10000 ≤ c) × (n ≡ 4)) → cond (ltb c 0x10000) 1 2 ≡ unitsBySize n
     by-number c n (inl h) = rw (lt-ltb c 0x10000 (h .0), ne-eqb n 4 (omega arith))
@@ -115,9 +116,9 @@ units-by-size x xs = of-tag (bytes x xs .tag) refl
         let short : size s ≤ mostDamaged = omega (arith, damage-short x xs (rw e), first-size reader-division x xs) in
         rw (e, ne-eqb (size s) 4 (omega arith))
 
-pub units-within : (x : ℕ) (xs : List ℕ) → unitsOf (first bytes x xs) ≤ size (first bytes x xs)
+pub units-within : (x : ℕ) (xs : List ℕ) → unitsOf (first reader x xs) ≤ size (first reader x xs)
 units-within x xs =
-    let n : ℕ = size (first bytes x xs) in
+    let n : ℕ = size (first reader x xs) in
     rw (units-by-size x xs) (split (eqb n 4)
     (λ e. rw e (omega (arith, eqb-true n 4 e)))
     (λ e. rw e (omega arith)))
@@ -132,14 +133,14 @@ pub record Ordered (p : Place) : Type 0 where
 ordered-start : Ordered (ruler .zeroth)
 ordered-start = record { lines = omega arith; points = omega arith; units = omega arith }
 
-ordered-next : (p : Place) (x : ℕ) (xs : List ℕ) → Ordered p → Ordered (ruler .step p (first bytes x xs))
+ordered-next : (p : Place) (x : ℕ) (xs : List ℕ) → Ordered p → Ordered (ruler .step p (first reader x xs))
 ordered-next p x xs o =
-    let s = first bytes x xs in
+    let s = first reader x xs in
     record {
       lines = omega (arith, one-or-none s);
       points = omega (arith, one-or-two s);
       units = omega (arith, units-within x xs);
     }
 
-pub ordered : (text : List ℕ) {q : Place} → PlaceOf bytes ruler text q → Ordered q
+pub ordered : (text : List ℕ) {q : Place} → PlaceOf reader ruler text q → Ordered q
 ordered text b = places-keep reader-division measured (λ p rest. Ordered p) ordered-next text b ordered-start

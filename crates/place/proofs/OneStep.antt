@@ -2,7 +2,7 @@
 use mathlib.Core.Path.{_≡_, refl, ap, _∙_}
 use Prim.Native.Nat.{ℕ, suc, _+_, _-_, _%_, _^_, _≤_, _<_}
 use mathlib.Core.List.{List, [], _∷_}
-use lib.ListN.{length, getD, take, drop, length-drop}
+use lib.ListN.{length, take, drop, length-drop}
 use lib.Seq.{drop-drop}
 use native.Mathlib.Omega.{arith}
 use Rattle.theory.specs.Reader.{Reader, Look, Segment, first, cut}
@@ -13,11 +13,14 @@ use Rattle.terms.specs.Told as told
 use Rattle.terms.specs.declared.First.{First}
 use Rattle.terms.specs.declared.First.the-variants.{Nothing, Whole, Damage, Begun}
 use Rattle.terms.proofs.WalkBySegments.{part-is}
+use Rattle.utf8.specs.Bytes.{bytes}
+use Rattle.utf8_count.specs.Counts.{endFirst}
 use Rattle.place.proofs.ReaderDivides.{reader-division}
-use Rattle.place.specs.Measures.{unitsOf, ruler, reader}
+use Rattle.place.specs.Measures.{Tag, unitsOf, ruler, reader}
 use Rattle.place.specs.Walk.{wrapped, behind, steppedBy, Roomy}
 use Rattle.place.specs.declared.Place.{Place}
 use Rattle.place.proofs.MeasuresRise.{one-or-none, units-by-size, units-within}
+use Rattle.place.proofs.LineEnds.{first-ends}
 
 -- ---- what `step_by` adds: nothing at the end of the text, or the reader told of `n` bytes at the start of the rest
 
@@ -32,15 +35,15 @@ told-size (Damage n c) l e = cc
 told-size (Begun n) l e = cc
 
 pub added : (look : Reader Kind) → Division look → (p : Place) (rest : List ℕ) → 0 < length rest → (r : First)
-    → told.toldFirst r ≡ told.firstSays look rest → (n : ℕ) → n ≡ told.sizeOf r → wrapped (behind p n (getD rest 0 0)) ≡ steppedBy look p rest
+    → told.toldFirst r ≡ told.firstSays look rest → (n : ℕ) → n ≡ told.sizeOf r → wrapped (behind p n (endFirst rest)) ≡ steppedBy look p rest
 added look d p [] h r e n i = absurd (omega arith)
 added look d p (x ∷ xs) h r e n i =
     let k : n ≡ size (first look x xs) = omega (arith, told-size r (look x xs) e, first-size d x xs) in
     rw k
 
--- WITH THE READER BY WHICH PLACES ARE COUNTED it is the ruler's step: a segment's size tells its units
-pub stepped-ruled : (p : Place) (x : ℕ) (xs : List ℕ) → steppedBy reader p (x ∷ xs) ≡ wrapped (ruler .step p (first reader x xs))
-stepped-ruled p x xs = rw (units-by-size x xs)
+-- WITH THE BYTES' READER it is the ruler's step: a segment's size tells its units, and the bytes whether a line ends behind it
+pub stepped-ruled : (p : Place) (x : ℕ) (xs : List ℕ) → steppedBy bytes p (x ∷ xs) ≡ wrapped (ruler .step p (first reader x xs))
+stepped-ruled p x xs = rw (units-by-size x xs, first-ends x xs .count)
 
 -- THE SUMS ARE PLAIN where there is room
 pub wrapped-same : (p : Place) → p .bytes < 2 ^ 64 → p .units < 2 ^ 64 → p .points < 2 ^ 64 → p .lines < 2 ^ 64 → wrapped p ≡ p
@@ -51,9 +54,9 @@ wrapped-same p b u c l =
     let el : p .lines % 2 ^ 64 ≡ p .lines = omega arith in
     rw (eb, eu, ec, el)
 
-pub stepped-plain : (p : Place) (x : ℕ) (xs : List ℕ) → Roomy p (x ∷ xs) → steppedBy reader p (x ∷ xs) ≡ ruler .step p (first reader x xs)
+pub stepped-plain : (p : Place) (x : ℕ) (xs : List ℕ) → Roomy p (x ∷ xs) → steppedBy bytes p (x ∷ xs) ≡ ruler .step p (first reader x xs)
 stepped-plain p x xs r =
-    let s : Segment Kind = first reader x xs in
+    let s : Segment Tag = first reader x xs in
     let n : size s ≤ length (x ∷ xs) = omega (arith, first-size reader-division x xs, reader-division .fits x xs) in
     stepped-ruled p x xs
     ∙ wrapped-same (ruler .step p s)
@@ -64,7 +67,7 @@ stepped-plain p x xs r =
 
 -- ONE STEP: q is one segment behind p, which lies `at` bytes into the text
 pub record Taken (text : List ℕ) (at : ℕ) (p q : Place) : Type 0 where
-  pub segment : Segment Kind
+  pub segment : Segment Tag
   pub place : q ≡ ruler .step p segment
   pub bytes-are : q .bytes ≡ p .bytes + size segment
   pub units : unitsOf segment ≤ size segment
@@ -72,11 +75,11 @@ pub record Taken (text : List ℕ) (at : ℕ) (p q : Place) : Type 0 where
   pub cuts : cut reader (drop at text) ≡ segment ∷ cut reader (drop (at + size segment) text)
 
 -- it is what a step by that reader gives of `&text[at..]`, where there is room
-pub taken : (look : Reader Kind) → look ≡ reader → (text : List ℕ) (at : ℕ) (p q : Place) → at < length text → Roomy p (drop at text)
+pub taken : (look : Reader Kind) → look ≡ bytes → (text : List ℕ) (at : ℕ) (p q : Place) → at < length text → Roomy p (drop at text)
     → q ≡ steppedBy look p (take (length text - at) (drop at text)) → Taken text at p q
 taken look l text at p q h r e = of-rest (drop at text) refl r (rw (part-is, l) at e)
   where
-    of-rest : (rest : List ℕ) → drop at text ≡ rest → Roomy p rest → q ≡ steppedBy reader p rest → Taken text at p q
+    of-rest : (rest : List ℕ) → drop at text ≡ rest → Roomy p rest → q ≡ steppedBy bytes p rest → Taken text at p q
     of-rest [] d r e = absurd (omega (arith, length-drop at text, ap length d))
     of-rest (x ∷ xs) d r e =
         let n : size (first reader x xs) ≡ suc (reader x xs .more) = first-size reader-division x xs in

@@ -8,29 +8,28 @@ use lib.Dec.{leb}
 use borrow.Author.Tests.{ltb-false, leb-true}
 use native.Mathlib.Omega.{arith}
 use Rattle.theory.specs.Reader.{Segment, cut}
-use Rattle.theory.specs.Table.{Kind}
 use Rattle.theory.specs.Tally.{size}
 use Rattle.theory.proofs.Cases.{both}
 use Rattle.terms.specs.Limits.{limit}
-use Rattle.place.specs.Measures.{unitsOf, linesOf, ruler, reader}
+use Rattle.place.specs.Measures.{Tag, unitsOf, linesOf, ruler, reader}
 use Rattle.place.specs.Walk.{Roomy, fair, over, going}
 use Rattle.place.specs.declared.Place.{Place}
 use Rattle.place.proofs.MeasuresRise.{one-or-none}
 use Rattle.place.proofs.OneStep.{Taken}
 
 -- THE WAY: F of the whole text is F of the rest at the place that is reached
-pub record Reached {X : Type 0} (F : Place → List (Segment Kind) → X) (from : Place) (text : List ℕ) (at : ℕ) (p : Place) : Type 0 where
+pub record Reached {X : Type 0} (F : Place → List (Segment Tag) → X) (from : Place) (text : List ℕ) (at : ℕ) (p : Place) : Type 0 where
   pub inside : at ≤ length text
   pub bytes-are : p .bytes ≡ from .bytes + at
   pub roomy : Roomy p (drop at text)
   pub same : F from (cut reader text) ≡ F p (cut reader (drop at text))
 
-pub reached-start : {X : Type 0} (F : Place → List (Segment Kind) → X) {from : Place} {text : List ℕ} → Roomy from text → Reached F from text 0 from
+pub reached-start : {X : Type 0} (F : Place → List (Segment Tag) → X) {from : Place} {text : List ℕ} → Roomy from text → Reached F from text 0 from
 reached-start F r = record { inside = omega arith; bytes-are = omega arith; roomy = r; same = refl }
 
-module _ {X : Type 0} {F : Place → List (Segment Kind) → X} {from : Place} {text : List ℕ} {at : ℕ} {p : Place} (r : Reached F from text at p) where
+module _ {X : Type 0} {F : Place → List (Segment Tag) → X} {from : Place} {text : List ℕ} {at : ℕ} {p : Place} (r : Reached F from text at p) where
   pub reached-next : {at′ : ℕ} {q : Place} (t : Taken text at p q) → q .bytes ≡ from .bytes + at′
-      → ((ss : List (Segment Kind)) → F p (t .segment ∷ ss) ≡ F q ss) → Reached F from text at′ q
+      → ((ss : List (Segment Tag)) → F p (t .segment ∷ ss) ≡ F q ss) → Reached F from text at′ q
   reached-next {at′} {q} t e f =
       let s = t .segment in
       let u : q .units ≡ p .units + unitsOf s = ap (λ (r : Place). r .units) (t .place) in

@@ -1,3 +1,5 @@
+-- Where a line ends: what is said of the bytes of a segment and of the text behind it
+pub mod Lines
 -- The four measures of a byte text: bytes, UTF-16 units, code points and lines
 pub mod Measures
 -- Cutting: the longest beginning of a text that ends at a boundary and stays within a maximum

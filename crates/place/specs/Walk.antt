@@ -9,6 +9,7 @@ use Rattle.theory.specs.Table.{Kind}
 use Rattle.theory.specs.Tally.{size}
 use Rattle.theory.specs.Place.{lookup, last}
 use Rattle.terms.specs.Limits.{limit}
+use Rattle.utf8_count.specs.Counts.{endFirst}
 use Rattle.place.specs.Measures.{place, ruler, reader}
 use Rattle.place.specs.Lookup.{fourCounts, foundSays}
 use Rattle.place.specs.declared.Place.{Place}
@@ -28,25 +29,23 @@ measure (Unit n) = λ p. p .units
 measure (Point n) = λ p. p .points
 measure (Line n) = λ p. p .lines
 
--- the units of a segment by its size alone, and the lines that it ends by its first byte
+-- the units of a segment by its size alone
 abbrev pub unitsBySize : ℕ → ℕ
 unitsBySize n = cond (eqb n 4) 2 1
-
-abbrev pub linesByHead : ℕ → ℕ
-linesByHead x = cond (eqb x 0x0A) 1 0
 
 -- a place with its counts modulo 2^64
 abbrev pub wrapped : Place → Place
 wrapped p = place (p .bytes % 2 ^ 64) (p .units % 2 ^ 64) (p .points % 2 ^ 64) (p .lines % 2 ^ 64)
 
--- the place behind a segment of so many bytes that begins with this one
+-- the place behind a segment of so many bytes that ends so many lines, one or none
 abbrev pub behind : Place → ℕ → ℕ → Place
-behind p size head = place (p .bytes + size) (p .units + unitsBySize size) (p .points + 1) (p .lines + linesByHead head)
+behind p size ends = place (p .bytes + size) (p .units + unitsBySize size) (p .points + 1) (p .lines + ends)
 
--- the place one segment behind another by any reader, where the rest of the text is given; counts are modulo 2^64
+-- the place one segment behind another by any reader, where the rest of the text is given, which tells whether a line ends there;
+-- counts are modulo 2^64
 abbrev pub steppedBy : Reader Kind → Place → List ℕ → Place
 steppedBy look p [] = p
-steppedBy look p (x ∷ xs) = wrapped (behind p (size (first look x xs)) x)
+steppedBy look p (x ∷ xs) = wrapped (behind p (size (first look x xs)) (endFirst (x ∷ xs)))
 
 -- no count can go past the largest number on the way through the rest
 pub record Roomy (p : Place) (rest : List ℕ) : Type 0 where

@@ -4,7 +4,7 @@ use terms::Refusal;
 ghost use mathlib.Core.Path.{_≡_};
 ghost use Rattle.utf8.specs.Classes.{byClasses};
 ghost use Rattle.place.specs.Measures.{place};
-ghost use Rattle.place.specs.Walk.{number, measure, unitsBySize, linesByHead, steppedBy, fair, over};
+ghost use Rattle.place.specs.Walk.{number, measure, unitsBySize, steppedBy, fair, over};
 
 // Offsets in the four measures: none is passed for another.
 pub struct Bytes(pub usize);
@@ -100,13 +100,6 @@ pub fn units_of(size: usize) -> usize
     if size == 4 { 2 } else { 1 }
 }
 
-// A line ends after each byte 0x0A.
-pub fn lines_of(head: u8) -> usize
-    ensures { λ r. ⌜ r ≡ linesByHead head ⌝ }
-{
-    if head == 0x0A { 1 } else { 0 }
-}
-
 // The place one segment behind p, by any table of classes; the rest of the text is given from p on. Counts are modulo 2^64.
 pub fn step_by(p: Place, rest: &[u8], classes: &[u8; 256]) -> Place
     ensures { λ r. ⌜ r ≡ steppedBy (byClasses (now (classes .entry))) p (now (rest .entry)) ⌝ }
@@ -119,6 +112,6 @@ pub fn step_by(p: Place, rest: &[u8], classes: &[u8; 256]) -> Place
         bytes: std::num::wrapping_add_usize(p.bytes, size),
         units: std::num::wrapping_add_usize(p.units, units_of(size)),
         points: std::num::wrapping_add_usize(p.points, 1),
-        lines: std::num::wrapping_add_usize(p.lines, lines_of(rest[0])),
+        lines: std::num::wrapping_add_usize(p.lines, utf8_count::end_first(rest)),
     }
 }

@@ -7,11 +7,10 @@ use lib.Seq.{drop-length}
 use borrow.Author.Tests.{lt-ltb, le-ltb, eq-eqb, ne-eqb}
 use native.Mathlib.Omega.{arith}
 use Rattle.theory.specs.Reader.{Segment}
-use Rattle.theory.specs.Table.{Kind}
 use Rattle.theory.specs.Place.{here, lookup}
 use Rattle.theory.proofs.Divisions.{cut-nil}
 use Rattle.terms.specs.Limits.{limit}
-use Rattle.place.specs.Measures.{ruler, reader}
+use Rattle.place.specs.Measures.{Tag, ruler, reader}
 use Rattle.place.specs.Lookup.{fourCounts, lookupSays}
 use Rattle.place.specs.Walk.{walkSays}
 use Rattle.place.specs.declared.Place.{Place}
@@ -31,7 +30,7 @@ module _ (m : Place → ℕ) (o : ℕ) {from : Place} {text : List ℕ} {at : �
   seeks-past h e = rw (r .same, e, drop-length text, cut-nil reader, lt-ltb (m p) o h)
 
   -- the count is the offset, or more
-  stops : o ≤ m p → (ss : List (Segment Kind)) → lookup (ruler .step) m o p ss ≡ here (ruler .step) m o p
+  stops : o ≤ m p → (ss : List (Segment Tag)) → lookup (ruler .step) m o p ss ≡ here (ruler .step) m o p
   stops h [] = rw (le-ltb (m p) o h)
   stops h (s ∷ ss) = rw (le-ltb (m p) o h)
 

@@ -2,7 +2,5 @@
 pub mod CountsByBlocks
 -- THE LAW OF THE SUMS: where all segments of a byte text are whole, its sums are those of its segments
 pub mod SumsOfSegments
--- A text of whole segments may be cut before any byte that is no later byte: both parts are whole segments
-pub mod CutsBetweenSegments
 -- Line ends over parts of a text: byte by byte and part by part, few, and none that begins with a later byte
 pub mod LineEndsAdd

@@ -63,7 +63,7 @@ high-four : (x y z t : ℕ) → 0xF0 ≤ x → (0x80 ≤ y) × (y ≤ 0xBF) → 
     → 0x10000 ≤ number (x ∷ y ∷ z ∷ t ∷ []) → Formed (x ∷ y ∷ z ∷ t ∷ [])
 high-four x y z t a b d e k = (first-high x (number (x ∷ y ∷ z ∷ t ∷ [])) 3 a k (omega arith), (is-later y b, (is-later z d, (is-later t e, tt))))
 
-formed : (ys : List ℕ) → Sequence rows ys → Formed ys
+pub formed : (ys : List ℕ) → Sequence rows ys → Formed ys
 unfolding rows
 formed = by-rows rows Formed
     (λ x a. (first-low x (number (x ∷ [])) 0 (omega arith) (omega arith), tt))

@@ -28,11 +28,8 @@ wrapping-add-usize-requires-2 c κs = search needs
 wrapping-add-usize-requires-3 : tie.Need-wrapping-add-usize-requires-3
 wrapping-add-usize-requires-3 c κs = search needs
 
-shared-slice-read-lines-of : tie.Need-shared-slice-read-lines-of
-shared-slice-read-lines-of c = search needs
-
-lines-of-requires : tie.Need-lines-of-requires
-lines-of-requires c κs = search needs
+end-first-requires : tie.Need-end-first-requires
+end-first-requires c κs = search needs
 
 wrapping-add-usize-requires-4 : tie.Need-wrapping-add-usize-requires-4
 wrapping-add-usize-requires-4 c κs = search needs
@@ -40,7 +37,7 @@ wrapping-add-usize-requires-4 c κs = search needs
 returns-2 : tie.Need-returns-2
 returns-2 c =
     let l = c .before in
-    let k = l .before .before in
+    let k = l .before in
     let v = k .before in
     let u = v .before in
     let b = u .before in
@@ -50,7 +47,7 @@ returns-2 c =
     let a = e .before .before .args in
     let h = added (byClasses (a .classes .now)) (classes-division (a .classes .now)) (a .p) (a .rest .now) (omega (arith, e .if1 .left)) (g .segment-by .result) (g .segment-by .ensures) in
     rw (b .wrapping-add-usize .ensures, v .wrapping-add-usize2 .ensures, u .units-of .ensures)
-    (rw (k .wrapping-add-usize3 .ensures, c .wrapping-add-usize4 .ensures, l .lines-of .ensures) (h (s .size .result) (s .size .ensures)))
+    (rw (k .wrapping-add-usize3 .ensures, c .wrapping-add-usize4 .ensures, l .end-first .ensures) (h (s .size .result) (s .size .ensures)))
 
 pub step-by-spec : {M : Type 1} → statement M
 step-by-spec =
@@ -63,7 +60,6 @@ step-by-spec =
     units-of-requires
     wrapping-add-usize-requires-2
     wrapping-add-usize-requires-3
-    shared-slice-read-lines-of
-    lines-of-requires
+    end-first-requires
     wrapping-add-usize-requires-4
     returns-2)
