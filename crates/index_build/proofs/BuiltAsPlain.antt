@@ -32,6 +32,7 @@ use Rattle.index_lookup.proofs.AnswersAsPlain.{as-plain}
 use Rattle.index_build.specs.State.{freshBuilder, left, settledPlace, sound, toldBuilding, buildSays}
 use Rattle.index_build.specs.declared.state.Builder.{Builder}
 use Rattle.index_build.specs.declared.state.Built as the-built
+use Rattle.index_build.proofs.LoneReturn.{reader-short}
 use Rattle.index_build.proofs.TestsAsFacts.{is-sound}
 use Rattle.index_build.proofs.ChecksInOrder.{says-done}
 use Rattle.index_build.specs.Building.{opened, fed, ended, closed, Feeds, Finishes}
@@ -74,7 +75,7 @@ module _ (row : List ℕ) where
         ap (λ (n : ℕ). place n (at .units) (at .points) (at .lines)) e
 
     left-is : left (stateOf text) ≡ parts reader text .left
-    left-is = left-kept text
+    left-is = left-kept reader-short text
 
     in-order : Ordered at
     in-order = ordered text (record {
@@ -89,7 +90,7 @@ module _ (row : List ℕ) where
     state-sound within =
         let o = in-order in
         is-sound (stateOf text) (record {
-          tail = left-tail text;
+          tail = left-tail reader-short text;
           within = within;
           covers = omega (arith, bytes-are);
           lines = o .lines;

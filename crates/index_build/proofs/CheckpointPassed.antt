@@ -1,7 +1,7 @@
 -- One segment: the place behind it, and the checkpoint that it passes.
 use mathlib.Core.Path.{_≡_, ap, _∙_}
 use Prim.Native.Nat.{ℕ, _+_, _-_, _*_, _/_, _%_, _^_, _≤_, _<_}
-use mathlib.Core.List.{List}
+use mathlib.Core.List.{List, _∷_}
 use lib.ListN.{length}
 use lib.Seq.{sets}
 use lib.Dec.{eqb}
@@ -11,11 +11,13 @@ use Rattle.theory.specs.Reader.{first}
 use Rattle.theory.specs.Index.{marks, add}
 use Rattle.theory.specs.Tally.{size}
 use Rattle.theory.proofs.Cases.{split, under}
+use Rattle.utf8_count.specs.Counts.{endFirst}
 use Rattle.place.specs.Measures.{ruler, reader}
-use Rattle.place.specs.Walk.{behind, unitsBySize, linesByHead}
+use Rattle.place.specs.Walk.{behind, unitsBySize}
 use Rattle.place.specs.Lookup.{fourCounts}
 use Rattle.place.specs.declared.Place.{Place}
 use Rattle.place.proofs.MeasuresRise.{units-by-size}
+use Rattle.place.proofs.LineEnds.{first-ends}
 use Rattle.index_checkpoint.specs.Checkpoints.{spacing, width, needed}
 use Rattle.index_checkpoint.specs.Marks.{markedAt, markedOnce}
 use Rattle.index_build.specs.Inside.Steps.{Fits, marked, Ahead, builtOf}
@@ -86,22 +88,19 @@ module _ (p q : Place) (row : List ℕ) (h : Between p q row) where
 pub units-few : (n : ℕ) → 0 < n → (1 ≤ unitsBySize n) × (unitsBySize n ≤ n)
 units-few n h = split (eqb n 4) (λ e. rw e (omega (arith, eqb-true n 4 e))) (λ e. rw e (omega arith))
 
-pub lines-few : (x : ℕ) → linesByHead x ≤ 1
-lines-few x = split (eqb x 0x0A) (λ e. rw e (omega arith)) (λ e. rw e (omega arith))
-
-module _ (p : Place) (n x : ℕ) (row : List ℕ) (a : Ahead p n row) where
-  pub behind-fits : Fits (behind p n x)
+module _ (p : Place) (n ends : ℕ) (row : List ℕ) (a : Ahead p n ends row) where
+  pub behind-fits : Fits (behind p n ends)
   behind-fits =
       let f = a .fits in
       let u = units-few n (a .some) in
       record {
-        lines = omega (arith, f .lines, lines-few x);
+        lines = omega (arith, f .lines, a .one);
         points = omega (arith, f .points);
         units = omega (arith, f .units);
         within = a .within;
       }
 
-  pub behind-between : Between p (behind p n x) row
+  pub behind-between : Between p (behind p n ends) row
   behind-between = record {
     old = a .fits;
     new = behind-fits;
@@ -112,9 +111,9 @@ module _ (p : Place) (n x : ℕ) (row : List ℕ) (a : Ahead p n row) where
 
 -- it is what the builder's action of that segment gives
 pub add-first : (p : Place) (row : List ℕ) (x : ℕ) (xs : List ℕ)
-    → let q : Place = behind p (size (first reader x xs)) x in
+    → let q : Place = behind p (size (first reader x xs)) (endFirst (x ∷ xs)) in
     add ruler fourCounts width spacing (builtOf p row) (first reader x xs) ≡ builtOf q (marked row p q)
 add-first p row x xs =
     let s = first reader x xs in
-    let e : ruler .step p s ≡ behind p (size s) x = rw (units-by-size x xs) in
+    let e : ruler .step p s ≡ behind p (size s) (endFirst (x ∷ xs)) = rw (units-by-size x xs, first-ends x xs .count) in
     ap (λ (q : Place). builtOf q (marked row p q)) e

@@ -2,20 +2,20 @@
 pub mod CheckpointPassed
 -- The walk over the settled segments of a text
 pub mod StreamBehindWalk
--- The place behind whole segments is that of the sums of their bytes, and the stream behind them is at their end
-pub mod PlaceBySums
--- The counts behind some bytes and then some more
+-- A 0D that nothing follows: by the reader of places it is pending
+pub mod LoneReturn
+-- The counts behind some bytes of a text and then some more
 pub mod CountsAdd
 -- The boundary before a byte: the one that a step back over later bytes leads to
 pub mod BoundaryBefore
 -- Stepping back from a byte to the boundary before it, over the bytes of a segment that is begun there
 pub mod BackToBoundary
--- The last place at or before a byte of whole segments: the one that a step back from there leads to
-pub mod LastPlaceBefore
+-- A RUN of whole segments that are settled: the text divides behind it, and the places in it are those of the sums of their bytes
+pub mod RunDivided
 -- THE RUN has been counted as far as a byte, and the checkpoints up to there are written
 pub mod RunMarked
--- The walk over a text that begins with a run of whole segments
-pub mod WalkBehindRun
+-- The settled run that a text begins with, and the walk behind it
+pub mod SettledRun
 -- What a call answers, and what it leaves where it is granted and where it is refused
 pub mod GrantedOrRefused
 -- A state that takes a piece, or ends: the seam with what is pending, and the pending bytes as one segment

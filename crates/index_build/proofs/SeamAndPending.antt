@@ -17,6 +17,7 @@ use Rattle.place.proofs.ReaderDivides.{reader-division, reader-hold}
 use Rattle.utf8_pending.specs.Tail as tail
 use Rattle.utf8_pending.proofs.SettledFirst.{settled-inside}
 use Rattle.utf8_pending.proofs.SeamIsFirst.{seam-pending, seam-over, seam-inside, seam-behind}
+use Rattle.utf8_count.specs.Counts.{endFirst}
 use Rattle.place.specs.Measures.{ruler, reader}
 use Rattle.place.specs.Lookup.{fourCounts}
 use Rattle.place.specs.Walk.{behind}
@@ -27,8 +28,9 @@ use Rattle.index_build.specs.declared.state.Builder.{Builder}
 use Rattle.index_build.proofs.TestsAsFacts.{Sound, sound-is}
 use Rattle.index_build.specs.Building.{closed, ended}
 use Rattle.index_build.specs.Inside.Steps.{Fits, marked, Ahead, Advances, builtOf, streamOf, joined, Walks, keeping, Closes, Granted, Seams}
+use Rattle.index_build.proofs.LoneReturn.{reader-short}
 use Rattle.index_build.proofs.CheckpointPassed.{behind-fits, add-first}
-use Rattle.index_build.proofs.StreamBehindWalk.{streamed, settled-few, settled-add}
+use Rattle.index_build.proofs.StreamBehindWalk.{streamed, first-few, settled-few, settled-add}
 
 -- ---- the state
 
@@ -53,10 +55,10 @@ module _ (b : Builder) (piece seam row : List ℕ) (s : Seams b piece seam row) 
   long = left-long b passes (s .three)
 
   abbrev taken : ℕ
-  taken = total size (tail.firstSettled seam)
+  taken = total size (tail.firstSettled reader seam)
 
-  taken-is : taken ≡ total size (tail.firstSettled (tail.four (left b) piece))
-  taken-is = ap (λ (t : List ℕ). total size (tail.firstSettled t)) (s .seam-is)
+  taken-is : taken ≡ total size (tail.firstSettled reader (tail.four (left b) piece))
+  taken-is = ap (λ (t : List ℕ). total size (tail.firstSettled reader t)) (s .seam-is)
 
   -- nothing was pending: the piece is read where it lies
   module _ (none : b .pending ≡ 0) where
@@ -75,59 +77,61 @@ module _ (b : Builder) (piece seam row : List ℕ) (s : Seams b piece seam row) 
   -- nothing is settled: all of it is pending
   pub join-none : taken ≡ 0 → (n : ℕ) (r : Builder) → r ≡ keeping seam (settledPlace b) n → Closes n (joined b row piece) row r
   join-none z n r e =
-      let z′ : total size (tail.firstSettled (tail.four (left b) piece)) ≡ 0 = sym taken-is ∙ z in
+      let z′ : total size (tail.firstSettled reader (tail.four (left b) piece)) ≡ 0 = sym taken-is ∙ z in
       let p : joined b row piece ≡ record { left = seam; kept = builtOf (settledPlace b) row }
-      = ap (streamed (builtOf (settledPlace b) row)) (seam-pending (left b) piece (passes .tail .begins) z′) ∙ rw (← s .seam-is) in
+      = ap (streamed (builtOf (settledPlace b) row)) (seam-pending reader-short (left b) piece (passes .tail .begins) z′) ∙ rw (← s .seam-is) in
       record { state = e ∙ sym (ap (closed n) p); checkpoints = sym (ap (λ (t : State (Built Place)). t .kept .row) p) }
 
   -- the segment at the seam is settled, and the piece goes on behind it
   module _ (some : taken ≡ 0 → ⊥) where
-    some-four : total size (tail.firstSettled (tail.four (left b) piece)) ≡ 0 → ⊥
+    some-four : total size (tail.firstSettled reader (tail.four (left b) piece)) ≡ 0 → ⊥
     some-four z = some (taken-is ∙ z)
 
     pub join-some : 0 < length seam
-    join-some = omega (arith, settled-inside seam, some)
+    join-some = omega (arith, settled-inside reader-short seam, some)
 
     pub join-over : b .pending ≤ taken
-    join-over = omega (arith, seam-over (left b) piece (passes .tail .begins) some-four, long, taken-is)
+    join-over = omega (arith, seam-over reader-short (left b) piece (passes .tail .begins) some-four, long, taken-is)
 
     pub join-inside : taken - b .pending ≤ length piece
-    join-inside = omega (arith, seam-inside (left b) piece (passes .tail .begins) some-four, long, taken-is)
+    join-inside = omega (arith, seam-inside reader-short (left b) piece (passes .tail .begins) some-four, long, taken-is)
 
-    pub join-ahead : Ahead (settledPlace b) taken row
-    join-ahead =
+    pub join-ahead : {ends : ℕ} → ends ≡ endFirst seam → Ahead (settledPlace b) taken ends row
+    join-ahead e =
         let p = passes in
         let g = s .granted in
         record {
           fits = settled-fits b p;
           some = omega (arith, some);
           few = settled-few seam some;
+          one = rw e (first-few seam);
           within = omega (arith, join-over, join-inside, p .covers, g .within);
           room = omega (arith, join-over, join-inside, p .covers, g .room);
         }
 
-    pub join-walks : {x : ℕ} {row′ : List ℕ} {q : Place} → Advances (settledPlace b) taken x row row′ q → Walks q (drop (taken - b .pending) piece) row′
-    join-walks {x} {row′} {q} a =
+    pub join-walks : {ends : ℕ} {row′ : List ℕ} {q : Place} → ends ≡ endFirst seam → Advances (settledPlace b) taken ends row row′ q
+        → Walks q (drop (taken - b .pending) piece) row′
+    join-walks {ends} {row′} {q} i a =
         let p = passes in
         let g = s .granted in
         let l : length row′ ≡ length row = rw (a .checkpoints, length-sets) in
         let e : q .bytes + length (drop (taken - b .pending) piece) ≡ b .taken + length piece
         = rw (a .place-is) (omega (arith, join-over, join-inside, p .covers, length-drop (taken - b .pending) piece)) in
         record {
-          fits = rw (a .place-is) (behind-fits (settledPlace b) taken x row join-ahead);
+          fits = rw (a .place-is) (behind-fits (settledPlace b) taken ends row (join-ahead i));
           within = rw e (g .within);
           room = rw (e, l) (g .room);
         }
 
-    pub join-behind : {x : ℕ} {row′ : List ℕ} {q : Place} → x ≡ getD seam 0 0 → Advances (settledPlace b) taken x row row′ q
+    pub join-behind : {ends : ℕ} {row′ : List ℕ} {q : Place} → ends ≡ endFirst seam → Advances (settledPlace b) taken ends row row′ q
         → streamOf q row′ (drop (taken - b .pending) piece) ≡ joined b row piece
-    join-behind {x} {row′} {q} e a =
-        let q′ : Place = behind (settledPlace b) taken (getD seam 0 0) in
-        let f : foldl (add ruler fourCounts width spacing) (builtOf (settledPlace b) row) (tail.firstSettled seam) ≡ builtOf q′ (marked row (settledPlace b) q′)
+    join-behind {ends} {row′} {q} e a =
+        let q′ : Place = behind (settledPlace b) taken (endFirst seam) in
+        let f : foldl (add ruler fourCounts width spacing) (builtOf (settledPlace b) row) (tail.firstSettled reader seam) ≡ builtOf q′ (marked row (settledPlace b) q′)
         = settled-add (settledPlace b) row seam some in
         let m : joined b row piece ≡ streamOf q′ (marked row (settledPlace b) q′) (drop (taken - b .pending) piece)
-        = ap (streamed (builtOf (settledPlace b) row)) (seam-behind (left b) piece (passes .tail .begins) some-four)
-        ∙ rw (← s .seam-is, long, foldl-append (add ruler fourCounts width spacing) (builtOf (settledPlace b) row) (tail.firstSettled seam), f) in
+        = ap (streamed (builtOf (settledPlace b) row)) (seam-behind reader-short (left b) piece (passes .tail .begins) some-four)
+        ∙ rw (← s .seam-is, long, foldl-append (add ruler fourCounts width spacing) (builtOf (settledPlace b) row) (tail.firstSettled reader seam), f) in
         sym (m ∙ rw (a .place-is, a .checkpoints, e))
 
 -- ---- the end: what is pending is one segment
@@ -152,18 +156,20 @@ module _ (b : Builder) (row : List ℕ) (s : Sound b) (three : length (b .held) 
       rw (e, cut-nil)
 
   module _ (some : b .pending ≡ 0 → ⊥) where
-    pub end-ahead : (row′ : List ℕ) → length row′ ≡ length row → Granted b 0 row → Ahead (settledPlace b) (b .pending) row′
-    end-ahead row′ l g = record {
+    pub end-ahead : (row′ : List ℕ) → length row′ ≡ length row → Granted b 0 row → {ends : ℕ} → ends ≡ endFirst (left b)
+        → Ahead (settledPlace b) (b .pending) ends row′
+    end-ahead row′ l g e = record {
       fits = settled-fits b s;
       some = omega (arith, some);
       few = omega (arith, s .tail .few);
+      one = rw e (first-few (left b));
       within = omega (arith, s .covers, s .within);
       room = omega (arith, s .covers, l, g .room);
     }
 
-    pub end-some : {x : ℕ} {row₀ row′ : List ℕ} {q : Place} → row₀ ≡ sets row 0 (fourCounts (ruler .zeroth)) → x ≡ getD (b .held) 0 0
-        → Advances (settledPlace b) (b .pending) x row₀ row′ q → row′ ≡ ended b row .row
-    end-some {x} {row₀} {row′} {q} r e a =
+    pub end-some : {ends : ℕ} {row₀ row′ : List ℕ} {q : Place} → row₀ ≡ sets row 0 (fourCounts (ruler .zeroth)) → ends ≡ endFirst (left b)
+        → Advances (settledPlace b) (b .pending) ends row₀ row′ q → row′ ≡ ended b row .row
+    end-some {ends} {row₀} {row′} {q} r e a =
         let y : ℕ = getD (b .held) 0 0 in
         let ys : List ℕ = take (b .pending - 1) (drop 1 (b .held)) in
         let t : left b ≡ y ∷ ys = take-some (b .held) (b .pending) (omega (arith, some)) (omega arith) in
@@ -172,6 +178,8 @@ module _ (b : Builder) (row : List ℕ) (s : Sound b) (three : length (b .held) 
         let f : cut reader (left b) ≡ first reader y ys ∷ [] = ap (cut reader) t ∙ o .0 in
         let k : ended b row ≡ add ruler fourCounts width spacing (builtOf (settledPlace b) row₀) (first reader y ys) = rw (r, f) in
         let m : add ruler fourCounts width spacing (builtOf (settledPlace b) row₀) (first reader y ys)
-        ≡ builtOf (behind (settledPlace b) (b .pending) y) (marked row₀ (settledPlace b) (behind (settledPlace b) (b .pending) y))
-        = add-first (settledPlace b) row₀ y ys ∙ ap (λ (j : ℕ). let v : Place = behind (settledPlace b) j y in builtOf v (marked row₀ (settledPlace b) v)) n in
-        a .checkpoints ∙ sym (ap (λ (v : Built Place). v .row) (k ∙ m) ∙ rw (← e))
+        ≡ builtOf (behind (settledPlace b) (b .pending) ends) (marked row₀ (settledPlace b) (behind (settledPlace b) (b .pending) ends))
+        = add-first (settledPlace b) row₀ y ys
+        ∙ ap (λ (j : ℕ). let v : Place = behind (settledPlace b) j (endFirst (y ∷ ys)) in builtOf v (marked row₀ (settledPlace b) v)) n
+        ∙ ap (λ (j : ℕ). let v : Place = behind (settledPlace b) (b .pending) j in builtOf v (marked row₀ (settledPlace b) v)) (ap endFirst (sym t) ∙ sym e) in
+        a .checkpoints ∙ sym (ap (λ (v : Built Place). v .row) (k ∙ m))

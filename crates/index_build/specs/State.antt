@@ -8,7 +8,7 @@ use Rattle.terms.specs.Checks.{tested}
 use Rattle.terms.specs.Limits.{limit, unheld}
 use Rattle.terms.specs.Told.{toldRefusal}
 use Rattle.utf8_pending.specs.Tail.{isTail}
-use Rattle.place.specs.Measures.{place}
+use Rattle.place.specs.Measures.{place, reader}
 use Rattle.place.specs.declared.Place.{Place}
 use Rattle.index_checkpoint.specs.Checkpoints.{needed}
 use Rattle.index_build.specs.declared.state.Builder.{Builder}
@@ -25,11 +25,11 @@ left b = take (b .pending) (b .held)
 abbrev pub settledPlace : Builder → Place
 settledPlace b = place (b .taken - b .pending) (b .units) (b .points) (b .lines)
 
--- THE TESTS OF A STATE: at most 3 pending bytes, empty or a proper beginning of a well-formed sequence; unused ones 0; taken
--- within the limit; pending at most taken; lines ≤ code points ≤ units ≤ taken less pending
+-- THE TESTS OF A STATE: at most 3 pending bytes, empty, a proper beginning of a well-formed sequence, or a lone 0D; unused ones 0;
+-- taken within the limit; pending at most taken; lines ≤ code points ≤ units ≤ taken less pending
 abbrev pub sound : Builder → Bool
 sound b =
-    isTail (b .held) (b .pending)
+    isTail reader (b .held) (b .pending)
     && leb (b .taken) limit
     && leb (b .pending) (b .taken)
     && leb (b .lines) (b .points)

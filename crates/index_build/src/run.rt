@@ -11,17 +11,17 @@ ghost use Rattle.index_build.specs.Inside.Steps.{Walked};
 ghost use Rattle.index_build.specs.Inside.Summed.{summed, Adds, boundary, Covers, back};
 ghost use Rattle.index_build.specs.Inside.Runs.{Runs};
 
-// The counts behind some bytes more.
-fn add_sums(p: Place, text: &[u8]) -> Place
-    requires { ⌜ Adds p (now text) ⌝ }
-    ensures { λ r. ⌜ r ≡ summed p (now (text .entry)) ⌝ }
+// The counts behind the next n bytes of a text.
+fn add_sums(p: Place, text: &[u8], n: usize) -> Place
+    requires { ⌜ Adds p (now text) n ⌝ }
+    ensures { λ r. ⌜ r ≡ summed p (now (text .entry)) n ⌝ }
 {
-    let s = utf8_count::count(text);
+    let s = utf8_count::count(&text[..n]);
     Place {
-        bytes: p.bytes + text.len(),
+        bytes: p.bytes + n,
         units: p.units + s.starts + s.fours,
         points: p.points + s.starts,
-        lines: p.lines + s.ends,
+        lines: p.lines + utf8_count::line_ends(text, n),
     }
 }
 
@@ -50,13 +50,13 @@ fn units_from(head: u8) -> usize
     if 0xF0 <= head { 2 } else { 1 }
 }
 
-// The place at the last boundary at or before byte n, where q has the counts as far as that byte: what the segment that is
-// begun there counts is taken off. The end of the text is a boundary.
-fn step_back(text: &[u8], n: usize, q: Place) -> Place
-    requires { ⌜ Covers q (now text) n ⌝ }
-    ensures { λ r. ⌜ r ≡ back (now (text .entry)) n q ⌝ }
+// The place at the last boundary at or before byte n of a run, where q has the counts as far as that byte: what the segment that
+// is begun there counts is taken off. The end of the run is a boundary.
+fn step_back(text: &[u8], run: usize, n: usize, q: Place) -> Place
+    requires { ⌜ Covers q (now text) run n ⌝ }
+    ensures { λ r. ⌜ r ≡ back (now (text .entry)) run n q ⌝ }
 {
-    if text.len() <= n {
+    if run <= n {
         return q;
     }
     let b = boundary(text, n);
@@ -68,30 +68,30 @@ fn step_back(text: &[u8], n: usize, q: Place) -> Place
         bytes: q.bytes - (n - b),
         units: q.units - units_from(head),
         points: q.points - 1,
-        lines: q.lines - place::lines_of(head),
+        lines: q.lines - utf8_count::end_first(&text[b..]),
     }
 }
 
-// Whole segments are walked over, from one checkpoint to the next. A run that is none is not counted.
-pub(crate) fn pass_run(text: &[u8], from: Place, row: &mut [u32]) -> Place
-    requires { ⌜ Runs from (now text) (now row) ⌝ }
-    ensures { λ r. ⌜ Walked (now (text .entry)) from (now (row .entry)) (now (row .exit)) r (length (now (text .entry))) ⌝ }
+// The whole segments that a text begins with are walked over, from one checkpoint to the next. A run that is none is not counted.
+pub(crate) fn pass_run(text: &[u8], run: usize, from: Place, row: &mut [u32]) -> Place
+    requires { ⌜ Runs from (now text) run (now row) ⌝ }
+    ensures { λ r. ⌜ Walked (now (text .entry)) from (now (row .entry)) (now (row .exit)) r run ⌝ }
 {
-    if text.len() == 0 {
+    if run == 0 {
         return from;
     }
     let mut q = from;
     let mut at: usize = 0;
     loop {
         let end = at + (index_checkpoint::SPACING - q.bytes % index_checkpoint::SPACING);
-        if text.len() < end {
-            return add_sums(q, &text[at..]);
+        if run < end {
+            return add_sums(q, &text[at..], run - at);
         }
-        q = add_sums(q, &text[at..end]);
+        q = add_sums(q, &text[at..], end - at);
         index_checkpoint::mark(
             row,
             q.bytes / index_checkpoint::SPACING,
-            step_back(text, end, q),
+            step_back(text, run, end, q),
         );
         at = end;
     }

@@ -4,6 +4,8 @@ use terms::Decoder;
 use terms::Refusal;
 ghost use mathlib.Core.Path.{_≡_};
 ghost use Prim.Native.Nat.{_≤_};
+ghost use Rattle.utf8_pending.specs.Tail.{isTail};
+ghost use Rattle.place.specs.Measures.{reader};
 ghost use Rattle.index_build.specs.State.{freshBuilder, settledPlace, sound, toldBuilding, buildSays};
 
 // What the builder keeps between two pieces.
@@ -59,12 +61,31 @@ pub struct Built {
     pub state: Builder,
 }
 
+// Are these the pending bytes of a builder: those of a decoder, or a lone 0D?
+fn is_kept(held: [u8; Decoder::PENDING], n: usize) -> bool
+    ensures { λ r. ⌜ r ≡ isTail reader held n ⌝ }
+{
+    if utf8_pending::is_tail(held, n) {
+        return true;
+    }
+    if n != 1 {
+        return false;
+    }
+    if held[0] != 0x0D {
+        return false;
+    }
+    if held[1] != 0 {
+        return false;
+    }
+    held[2] == 0
+}
+
 // The tests of a state. No sum is made that could wrap.
 fn is_sound(state: Builder) -> bool
     ensures { λ r. ⌜ r ≡ sound state ⌝ }
 {
     let held = state.held;
-    if !utf8_pending::is_tail(held, state.pending) {
+    if !is_kept(held, state.pending) {
         return false;
     }
     if Decoder::LIMIT < state.taken {

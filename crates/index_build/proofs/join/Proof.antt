@@ -1,20 +1,21 @@
 -- `join` meets its contract: nothing was pending, all of the seam is pending still, or its segment is settled and the piece goes on.
 use Prim.Native.Nat.{ℕ, _+_, _-_, _≤_}
-use mathlib.Core.Path.{_≡_, refl, sym, subst, _∙_}
+use mathlib.Core.Path.{_≡_, sym, subst, _∙_}
 use mathlib.Core.List.{List}
-use lib.ListN.{length, getD, take, drop}
+use lib.ListN.{length, take, drop}
 use native.Mathlib.Omega.{arith}
 use Rattle.theory.specs.Stream.{State}
 use Rattle.theory.specs.Tally.{total, size}
 use Rattle.theory.specs.Index.{Built}
 use Rattle.terms.proofs.WalkBySegments.{part-is}
 use Rattle.utf8_pending.specs.Tail.{firstSettled}
-use Rattle.utf8_pending.proofs.SettledFirst.{told-size}
+use Rattle.place.specs.Measures.{reader}
 use Rattle.place.specs.declared.Place.{Place}
 use Rattle.index_build.specs.State.{settledPlace as place}
 use Rattle.index_build.specs.Inside.Steps.{Advances, streamOf, Walks, Closes}
+use Rattle.index_build.proofs.LoneReturn.{told-settled}
 use Rattle.index_build.proofs.TestsAsFacts.{sound-is}
-use Rattle.index_build.proofs.SeamAndPending.{join-walks-all, join-all, join-none, join-some, join-over, join-inside, join-ahead, join-walks, join-behind}
+use Rattle.index_build.proofs.SeamAndPending.{join-walks-all, join-all, join-none, join-over, join-inside, join-ahead, join-walks, join-behind}
 use borrow.Author.Needs.{needs}
 use Rattle.index_build.proofs.join.Statement.{statement}
 use Rattle.index_build.proofs.join.Tie as tie
@@ -50,16 +51,16 @@ returns c =
 segment-requires : tie.Need-segment-requires
 segment-requires c κs = search needs
 
-settled-size-requires : tie.Need-settled-size-requires
-settled-size-requires c κs = search needs
+settled-by-requires : tie.Need-settled-by-requires
+settled-by-requires c κs = search needs
 
 -- how many bytes are settled at the seam
-size-is : (c : tie.After-settled-size)
-    → c .settled-size .result ≡ total size (firstSettled (c .before .before .before .before .before .before .before .before .before .args .seam .now))
+size-is : (c : tie.After-settled-by)
+    → c .settled-by .result ≡ total size (firstSettled reader (c .before .before .before .before .before .before .before .before .before .args .seam .now))
 size-is c =
     let s = c .before in
     let seam = s .before .before .before .before .before .before .before .before .args .seam .now in
-    c .settled-size .ensures ∙ told-size (s .segment .result) seam (s .segment .ensures)
+    c .settled-by .ensures ∙ told-settled (s .segment .result) seam (s .segment .ensures)
 
 keep-requires : tie.Need-keep-requires
 keep-requires c κs = search needs
@@ -74,29 +75,27 @@ returns-2 c =
     join-none (a .state) (a .piece .now) (a .seam .now) (a .row .now) (z .pre) (sym (size-is s) ∙ i .if2 .taken)
     (a .state .taken + length (a .piece .now)) (c .keep .result) (rw (p .settled-place .ensures) at (c .keep .ensures))
 
-some : (c : tie.Else2) → total size (firstSettled (c .before .before .before .before .before .before .before .before .before .before .args .seam .now)) ≡ 0 → ⊥
+some : (c : tie.Else2) → total size (firstSettled reader (c .before .before .before .before .before .before .before .before .before .before .args .seam .now)) ≡ 0 → ⊥
 some c n = c .if2 .left (size-is (c .before) ∙ n)
 
-shared-slice-read-advance : tie.Need-shared-slice-read-advance
-shared-slice-read-advance c =
-    let e = c .before in
-    let z = e .before .before .before .before .before .before .before .before .before .before in
-    join-some (z .args .state) (z .args .piece .now) (z .args .seam .now) (z .args .row .now) (z .pre) (some e)
+end-first-requires : tie.Need-end-first-requires
+end-first-requires c κs = search needs
 
 advance-requires : tie.Need-advance-requires
 advance-requires c κs =
-    let e = c .before .before in
+    let f = c .before in
+    let e = f .before in
     let s = e .before in
     let p = s .before .before .before .before in
     let z = p .before .before .before .before .before in
     rw (size-is s, p .settled-place .ensures)
-    (join-ahead (z .args .state) (z .args .piece .now) (z .args .seam .now) (z .args .row .now) (z .pre) (some e))
+    (join-ahead (z .args .state) (z .args .piece .now) (z .args .seam .now) (z .args .row .now) (z .pre) (some e) (f .end-first .ensures))
 
 -- the segment at the seam is passed
 passed : (c : tie.After-advance)
     → let s = c .before .before .before .before in
     let z = s .before .before .before .before .before .before .before .before .before in
-    Advances (place (z .args .state)) (total size (firstSettled (z .args .seam .now))) (getD (z .args .seam .now) 0 0) (z .args .row .now)
+    Advances (place (z .args .state)) (total size (firstSettled reader (z .args .seam .now))) (c .before .before .end-first .result) (z .args .row .now)
     (c .advance .last .1 .1 .1 .0) (c .advance .result)
 passed c =
     let s = c .before .before .before .before in
@@ -105,7 +104,7 @@ passed c =
 -- it reaches over what is pending, and ends in the piece
 over : (c : tie.Else2)
     → let z = c .before .before .before .before .before .before .before .before .before .before in
-    let n = c .before .settled-size .result in
+    let n = c .before .settled-by .result in
     (z .args .state .pending ≤ n) × (n - z .args .state .pending ≤ length (z .args .piece .now))
 over c =
     let z = c .before .before .before .before .before .before .before .before .before .before in
@@ -118,9 +117,9 @@ over c =
 -- the text behind it
 rest-is : (c : tie.Else2)
     → let z = c .before .before .before .before .before .before .before .before .before .before in
-    let from = c .before .settled-size .result - z .args .state .pending in
+    let from = c .before .settled-by .result - z .args .state .pending in
     let piece = z .args .piece .now in
-    take (length piece - from) (drop from piece) ≡ drop (total size (firstSettled (z .args .seam .now)) - z .args .state .pending) piece
+    take (length piece - from) (drop from piece) ≡ drop (total size (firstSettled reader (z .args .seam .now)) - z .args .state .pending) piece
 rest-is c = rw (part-is, size-is (c .before))
 
 sub-from : tie.Need-sub-from
@@ -142,7 +141,7 @@ walk-requires-2 c κs =
     let z = e .before .before .before .before .before .before .before .before .before .before in
     let a = z .args in
     subst (λ (rest : List ℕ). Walks (v .advance .result) rest (v .advance .last .1 .1 .1 .0)) (sym (rest-is e))
-    (join-walks (a .state) (a .piece .now) (a .seam .now) (a .row .now) (z .pre) (some e) (passed v))
+    (join-walks (a .state) (a .piece .now) (a .seam .now) (a .row .now) (z .pre) (some e) (v .before .before .end-first .ensures) (passed v))
 
 same-length-2 : tie.Need-same-length-2
 same-length-2 c = search needs
@@ -157,7 +156,7 @@ returns-3 c =
     let n = a .state .taken + length (a .piece .now) in
     let row′ = v .advance .last .1 .1 .1 .0 in
     subst (λ (s : State (Built Place)). Closes n s (w .walk2 .last .1 .1 .1 .0) (w .walk2 .result))
-    (join-behind (a .state) (a .piece .now) (a .seam .now) (a .row .now) (z .pre) (some e) refl (passed v))
+    (join-behind (a .state) (a .piece .now) (a .seam .now) (a .row .now) (z .pre) (some e) (v .before .before .end-first .ensures) (passed v))
     (subst (λ (rest : List ℕ). Closes n (streamOf (v .advance .result) row′ rest) (w .walk2 .last .1 .1 .1 .0) (w .walk2 .result))
     (rest-is e) (w .walk2 .ensures))
 
@@ -171,10 +170,10 @@ join-spec =
     same-length
     returns
     segment-requires
-    settled-size-requires
+    settled-by-requires
     keep-requires
     returns-2
-    shared-slice-read-advance
+    end-first-requires
     advance-requires
     sub-from
     sub-walk

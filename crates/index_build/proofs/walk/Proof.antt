@@ -1,61 +1,53 @@
 -- `walk` meets its contract: behind the run that the text begins with, the stream is that behind the rest.
-use Prim.Native.Nat.{_≤_}
-use native.Mathlib.Nat.{zero-add}
-use mathlib.Core.Path.{sym, subst}
-use lib.ListN.{length}
-use lib.Seq.{length-take-le, drop-length}
+use mathlib.Core.Path.{_≡_, sym, subst, _∙_}
+use lib.ListN.{drop}
 use borrow.Author.Needs.{needs}
 use Rattle.theory.specs.Stream.{State}
 use Rattle.theory.specs.Index.{Built}
 use Rattle.terms.proofs.WalkBySegments.{part-is}
-use Rattle.utf8_pending.proofs.SettledFirst.{settled-nil}
 use Rattle.place.specs.declared.Place.{Place}
-use Rattle.index_build.specs.Inside.Steps.{Walked, Closes}
-use Rattle.index_build.proofs.StreamBehindWalk.{walked-start, walked-walks, walked-end}
-use Rattle.index_build.proofs.WalkBehindRun.{run-inside, run-runs, run-walked}
+use Rattle.index_build.specs.Inside.Steps.{Walked, Closes, isLeft}
+use Rattle.index_build.proofs.LoneReturn.{left-none}
+use Rattle.index_build.proofs.StreamBehindWalk.{walked-walks, walked-end}
 use Rattle.index_build.proofs.walk.Statement.{statement}
 use Rattle.index_build.proofs.walk.Tie as tie
 
-whole-run-requires : tie.Need-whole-run-requires
-whole-run-requires c κs = search needs
-
--- at the start of the text
-begun : (z : tie.Start) → let a = z .args in Walked (a .text .now) (a .from) (a .row .now) (a .row .now) (a .from) 0
-begun z = walked-start (z .args .text .now) (z .args .from) (z .args .row .now) (z .pre)
-
--- the run ends in the text
-inside : (c : tie.After-whole-run) → c .whole-run .result ≤ length (c .before .before .before .args .text .now)
-inside c =
-    let z = c .before .before .before in
-    rw zero-add at (run-inside (z .args .text .now) (z .args .from) (z .args .row .now) (z .pre) (begun z) (c .whole-run .result) (c .whole-run .ensures))
-
-slice-aggregate-pass-run : tie.Need-slice-aggregate-pass-run
-slice-aggregate-pass-run c =
-    let r = c .before in
-    sym (length-take-le (r .whole-run .result) (r .before .before .before .args .text .now) (inside r))
+settled-run-requires : tie.Need-settled-run-requires
+settled-run-requires c κs = search needs
 
 pass-run-requires : tie.Need-pass-run-requires
-pass-run-requires c κs =
-    let r = c .before .before in
-    let z = r .before .before .before in
-    run-runs (z .args .text .now) (z .args .from) (z .args .row .now) (z .pre) (begun z) (r .whole-run .result) (r .whole-run .ensures)
+pass-run-requires c κs = let r = c .before in record { walks = r .before .before .before .pre; settled = r .settled-run .ensures }
 
 -- behind the run
 ran : (c : tie.After-pass-run)
-    → let r = c .before .before .before in
+    → let r = c .before .before in
     let a = r .before .before .before .args in
-    Walked (a .text .now) (a .from) (a .row .now) (c .pass-run .last .1 .1 .0) (c .pass-run .result) (r .whole-run .result)
-ran c =
-    let r = c .before .before .before in
-    let z = r .before .before .before in
-    rw zero-add at
-    (run-walked (z .args .text .now) (z .args .from) (z .args .row .now) (z .pre) (begun z) (r .whole-run .result) (r .whole-run .ensures) (c .pass-run .ensures))
+    Walked (a .text .now) (a .from) (a .row .now) (c .pass-run .last .1 .1 .1 .0) (c .pass-run .result) (r .settled-run .result)
+ran c = c .pass-run .ensures
+
+sub-is-left : tie.Need-sub-is-left
+sub-is-left c = ran (c .before .before) .inside
+
+part-is-left-start : tie.Need-part-is-left-start
+part-is-left-start c = let i = ran (c .before .before) .inside in search needs
+
+part-is-left-end : tie.Need-part-is-left-end
+part-is-left-end c = search needs
+
+is-left-requires : tie.Need-is-left-requires
+is-left-requires c κs = search needs
+
+-- whether anything of the rest is settled
+left-is : (c : tie.After-is-left)
+    → let r = c .before .before .before .before .before .before in
+    c .is-left .result ≡ isLeft (drop (r .settled-run .result) (r .before .before .before .args .text .now))
+left-is c = rw part-is at (c .is-left .ensures)
 
 sub-keep : tie.Need-sub-keep
-sub-keep c = search needs
+sub-keep c = ran (c .before .before .before .before .before) .inside
 
 part-keep-start : tie.Need-part-keep-start
-part-keep-start c = search needs
+part-keep-start c = let i = ran (c .before .before .before .before .before) .inside in search needs
 
 part-keep-end : tie.Need-part-keep-end
 part-keep-end c = search needs
@@ -66,28 +58,29 @@ keep-requires c κs = search needs
 same-length : tie.Need-same-length
 same-length c = search needs
 
--- it is all of the text
 returns : tie.Need-returns
 returns c =
     let i = c .before .before in
-    let k = i .before .before .before in
-    let z = k .before .before .before .before .before .before in
+    let b = i .before in
+    let k = b .before .before .before .before in
+    let r = k .before .before in
+    let z = r .before .before .before in
     walked-end (z .args .text .now) (z .args .from) (z .args .row .now) (z .pre) (ran k) (z .args .taken) (c .keep .result)
-    (rw (i .if1 .taken, drop-length, settled-nil)) (rw part-is at (c .keep .ensures))
+    (left-none (drop (r .settled-run .result) (z .args .text .now)) (sym (left-is b) ∙ i .if1 .taken)) (rw part-is at (c .keep .ensures))
 
 sub-walk-on : tie.Need-sub-walk-on
-sub-walk-on c = ran (c .before .before .before) .inside
+sub-walk-on c = ran (c .before .before .before .before .before) .inside
 
 part-walk-on-start : tie.Need-part-walk-on-start
-part-walk-on-start c = let i = ran (c .before .before .before) .inside in search needs
+part-walk-on-start c = let i = ran (c .before .before .before .before .before) .inside in search needs
 
 part-walk-on-end : tie.Need-part-walk-on-end
 part-walk-on-end c = search needs
 
 walk-on-requires : tie.Need-walk-on-requires
 walk-on-requires c κs =
-    let k = c .before .before .before .before .before in
-    let z = k .before .before .before .before .before .before in
+    let k = c .before .before .before .before .before .before .before in
+    let z = k .before .before .before .before .before in
     rw part-is (walked-walks (z .args .text .now) (z .args .from) (z .args .row .now) (z .pre) (ran k))
 
 same-length-2 : tie.Need-same-length-2
@@ -96,8 +89,8 @@ same-length-2 c = search needs
 returns-2 : tie.Need-returns-2
 returns-2 c =
     let w = c .before .before in
-    let k = w .before .before .before .before .before .before in
-    let a = k .before .before .before .before .before .before .args in
+    let k = w .before .before .before .before .before .before .before .before in
+    let a = k .before .before .before .before .before .args in
     subst (λ (s : State (Built Place)). Closes (a .taken) s (w .walk-on .last .1 .1 .1 .0) (w .walk-on .result)) (sym (ran k .same))
     (rw part-is at (w .walk-on .ensures))
 
@@ -105,9 +98,12 @@ pub walk-spec : {M : Type 1} → statement M
 walk-spec =
     tie.close
     (tie.spec
-    whole-run-requires
-    slice-aggregate-pass-run
+    settled-run-requires
     pass-run-requires
+    sub-is-left
+    part-is-left-start
+    part-is-left-end
+    is-left-requires
     sub-keep
     part-keep-start
     part-keep-end

@@ -5,13 +5,12 @@ use lib.ListN.{length, drop}
 use native.Mathlib.Omega.{arith}
 use borrow.Author.Needs.{needs}
 use Rattle.theory.specs.Tally.{total, size}
-use Rattle.terms.proofs.WalkBySegments.{part-is, part-to}
+use Rattle.terms.proofs.WalkBySegments.{part-is}
 use Rattle.utf8_pending.specs.Tail.{firstSettled}
-use Rattle.utf8_check.specs.Run.{wholeRun}
 use Rattle.utf8_check.proofs.RunsPassed.{wait-some}
+use Rattle.place.specs.Measures.{reader}
 use Rattle.index_build.specs.Inside.Steps.{Walked, Stretched}
-use Rattle.index_build.proofs.StreamBehindWalk.{walked-start, walked-walks, walked-end, stretched-on, stretched-none, stretched-some}
-use Rattle.index_build.proofs.WalkBehindRun.{run-inside, run-runs, run-walked}
+use Rattle.index_build.proofs.StreamBehindWalk.{walked-start, walked-on, walked-walks, walked-end, stretched-on, stretched-none, stretched-some}
 use Rattle.index_build.proofs.walk_by.Statement.{statement}
 use Rattle.index_build.proofs.walk_by.Tie as tie
 
@@ -70,7 +69,7 @@ none : (c : tie.Then1 Inv-loop μ-loop)
     let l = s .before .before .before in
     let a = l .before .before .before .args in
     Walked (a .text .now) (a .from) (a .row .now) (s .stretch .last .1 .1 .1 .0) (s .stretch .result) (l .loop .at)
-    × (total size (firstSettled (drop (l .loop .at) (a .text .now))) ≡ 0)
+    × (total size (firstSettled reader (drop (l .loop .at) (a .text .now))) ≡ 0)
 none c =
     let s = c .before .before .before .before .before in
     let l = s .before .before .before in
@@ -111,67 +110,51 @@ turned c =
 sub-start : tie.Need-sub-start Inv-loop μ-loop
 sub-start c = some (c .before .before) .0
 
-sub-whole-run : tie.Need-sub-whole-run Inv-loop μ-loop
-sub-whole-run c = turned (c .before .before .before .before .before .before .before) .inside
+sub-settled-run : tie.Need-sub-settled-run Inv-loop μ-loop
+sub-settled-run c = turned (c .before .before .before .before .before .before .before) .inside
 
-part-whole-run-start : tie.Need-part-whole-run-start Inv-loop μ-loop
-part-whole-run-start c = let i = turned (c .before .before .before .before .before .before .before) .inside in search needs
+part-settled-run-start : tie.Need-part-settled-run-start Inv-loop μ-loop
+part-settled-run-start c = let i = turned (c .before .before .before .before .before .before .before) .inside in search needs
 
-part-whole-run-end : tie.Need-part-whole-run-end Inv-loop μ-loop
-part-whole-run-end c = search needs
+part-settled-run-end : tie.Need-part-settled-run-end Inv-loop μ-loop
+part-settled-run-end c = search needs
 
-whole-run-requires : tie.Need-whole-run-requires Inv-loop μ-loop
-whole-run-requires c κs = search needs
-
--- the run behind them
-run-is : (c : tie.After-whole-run Inv-loop μ-loop)
-    → let s = c .before .before .before .before .before .before .before .before .before in
-    let a = s .before .before .before .before .before .before .args in
-    c .whole-run .result ≡ wholeRun (drop (s .stretch .result .bytes - a .from .bytes) (a .text .now))
-run-is c = rw part-is at (c .whole-run .ensures)
-
--- it ends in the text
-inside : (c : tie.After-whole-run Inv-loop μ-loop)
-    → let s = c .before .before .before .before .before .before .before .before .before in
-    let a = s .before .before .before .before .before .before .args in
-    s .stretch .result .bytes - a .from .bytes + c .whole-run .result ≤ length (a .text .now)
-inside c =
-    let s = c .before .before .before .before .before .before .before .before .before in
-    let z = s .before .before .before .before .before .before in
-    run-inside (z .args .text .now) (z .args .from) (z .args .row .now) (z .pre .0) (turned s) (c .whole-run .result) (run-is c)
-
-add-at : tie.Need-add-at Inv-loop μ-loop
-add-at c = omega (arith, inside c)
+settled-run-requires : tie.Need-settled-run-requires Inv-loop μ-loop
+settled-run-requires c κs = search needs
 
 sub-pass-run : tie.Need-sub-pass-run Inv-loop μ-loop
-sub-pass-run c = search needs
+sub-pass-run c = turned (c .before .before .before .before .before .before .before .before .before) .inside
 
 part-pass-run-start : tie.Need-part-pass-run-start Inv-loop μ-loop
-part-pass-run-start c = search needs
+part-pass-run-start c = let i = turned (c .before .before .before .before .before .before .before .before .before) .inside in search needs
 
 part-pass-run-end : tie.Need-part-pass-run-end Inv-loop μ-loop
-part-pass-run-end c = inside c
+part-pass-run-end c = search needs
 
+-- the run behind them
 pass-run-requires : tie.Need-pass-run-requires Inv-loop μ-loop
 pass-run-requires c κs =
     let r = c .before .before in
     let s = r .before .before .before .before .before .before .before .before .before in
     let z = s .before .before .before .before .before .before in
-    rw part-to (run-runs (z .args .text .now) (z .args .from) (z .args .row .now) (z .pre .0) (turned s) (r .whole-run .result) (run-is r))
+    rw part-is (record {
+      walks = walked-walks (z .args .text .now) (z .args .from) (z .args .row .now) (z .pre .0) (turned s);
+      settled = rw part-is at (r .settled-run .ensures);
+    })
 
--- behind the run
 ran : (c : tie.After-pass-run Inv-loop μ-loop)
     → let r = c .before .before .before in
     let s = r .before .before .before .before .before .before .before .before .before in
     let a = s .before .before .before .before .before .before .args in
-    Walked (a .text .now) (a .from) (a .row .now) (c .pass-run .last .1 .1 .0) (c .pass-run .result)
-    (s .stretch .result .bytes - a .from .bytes + r .whole-run .result)
+    Walked (a .text .now) (a .from) (a .row .now) (c .pass-run .last .1 .1 .1 .0) (c .pass-run .result)
+    (s .stretch .result .bytes - a .from .bytes + r .settled-run .result)
 ran c =
-    let r = c .before .before .before in
-    let s = r .before .before .before .before .before .before .before .before .before in
-    let z = s .before .before .before .before .before .before in
-    run-walked (z .args .text .now) (z .args .from) (z .args .row .now) (z .pre .0) (turned s) (r .whole-run .result) (run-is r)
-    (rw part-to at (c .pass-run .ensures))
+    let s = c .before .before .before .before .before .before .before .before .before .before .before .before in
+    let a = s .before .before .before .before .before .before .args in
+    walked-on (a .text .now) (a .from) (a .row .now) (turned s) (rw part-is at (c .pass-run .ensures))
+
+add-at : tie.Need-add-at Inv-loop μ-loop
+add-at c = omega (arith, ran (c .before .before) .inside)
 
 wait-behind-requires : tie.Need-wait-behind-requires Inv-loop μ-loop
 wait-behind-requires c κs = search needs
@@ -186,7 +169,7 @@ loop-again c =
     let k = c .before .before .before in
     let r = k .before .before .before in
     let l = r .before .before .before .before .before .before .before .before .before .before .before .before in
-    (ran k, rw (c .wait-behind .ensures) (wait-some (l .loop .wait) (r .whole-run .result) (l .loop .inv .1)))
+    (ran k, rw (c .wait-behind .ensures) (wait-some (l .loop .wait) (r .settled-run .result) (l .loop .inv .1)))
 
 pub walk-by-spec : {M : Type 1} → statement M
 walk-by-spec =
@@ -206,15 +189,15 @@ walk-by-spec =
     same-length
     returns
     sub-start
-    sub-whole-run
-    part-whole-run-start
-    part-whole-run-end
-    whole-run-requires
-    add-at
+    sub-settled-run
+    part-settled-run-start
+    part-settled-run-end
+    settled-run-requires
     sub-pass-run
     part-pass-run-start
     part-pass-run-end
     pass-run-requires
+    add-at
     wait-behind-requires
     loop-less
     loop-again)

@@ -1,16 +1,26 @@
--- A run of whole segments, which is counted from checkpoint to checkpoint.
+-- A run of whole segments that are settled, which is counted from checkpoint to checkpoint.
 use mathlib.Core.Path.{_≡_}
-use Prim.Native.Nat.{ℕ}
-use mathlib.Core.List.{List, []}
-use Rattle.terms.specs.Strict.{damages}
-use Rattle.place.specs.Measures.{reader}
+use Prim.Native.Nat.{ℕ, _<_}
+use mathlib.Core.Bool.{false}
+use mathlib.Core.List.{List, [], _++_}
+use lib.ListN.{drop}
+use Rattle.theory.specs.Reader.{Segment, cut}
+use Rattle.theory.specs.Tally.{total, size, entries}
+use Rattle.theory.specs.Table.{Kind, isDamage}
+use Rattle.utf8.specs.Bytes.{bytes}
+use Rattle.place.specs.Lines.{waitsBehind}
 use Rattle.place.specs.declared.Place.{Place}
 use Rattle.index_build.specs.Inside.Steps.{Walks}
 
--- all of a text is whole segments
-abbrev pub Whole : List ℕ → Type 0
-Whole text = damages reader text ≡ []
+-- the first n bytes of a text are segments without damage, and none of them is a 0D that ends the text
+pub record Settled (text : List ℕ) (n : ℕ) : Type 0 where
+  pub front : List (Segment Kind)
+  pub behind : List (Segment Kind)
+  pub divided : cut bytes text ≡ front ++ behind
+  pub sized : total size front ≡ n
+  pub whole : entries isDamage 0 front ≡ []
+  pub free : (k : ℕ) → k < n → waitsBehind (drop k text) [] ≡ false
 
-pub record Runs (from : Place) (text row : List ℕ) : Type 0 where
+pub record Runs (from : Place) (text : List ℕ) (n : ℕ) (row : List ℕ) : Type 0 where
   pub walks : Walks from text row
-  pub whole : Whole text
+  pub settled : Settled text n

@@ -1,8 +1,8 @@
 -- What the builder's steps promise each other: the checkpoint between two places, the settled segments of a text, and a call.
 use mathlib.Core.Path.{_≡_}
 use Prim.Native.Nat.{ℕ, _+_, _-_, _*_, _≤_, _<_}
-use mathlib.Core.Bool.{true, cond}
-use mathlib.Core.List.{List}
+use mathlib.Core.Bool.{Bool, true, cond}
+use mathlib.Core.List.{List, [], _∷_}
 use lib.ListN.{length, drop}
 use lib.Seq.{sets}
 use lib.Dec.{leb}
@@ -11,7 +11,9 @@ use Rattle.theory.specs.Stream as stream
 use Rattle.theory.specs.Tally.{written, total, size}
 use Rattle.theory.specs.Index.{Built, tab, marks, add}
 use Rattle.terms.specs.Limits.{limit, mostPending}
-use Rattle.utf8_pending.specs.Tail.{firstSettled, four}
+use Rattle.terms.specs.declared.First.{First}
+use Rattle.utf8_pending.specs.Tail.{firstSettled, settledSize, four}
+use Rattle.place.specs.Lines.{waitsBehind}
 use Rattle.place.specs.Measures.{ruler, reader, longest}
 use Rattle.place.specs.Walk.{behind}
 use Rattle.place.specs.Lookup.{fourCounts}
@@ -40,16 +42,17 @@ passed p q =
 abbrev pub marked : List ℕ → Place → Place → List ℕ
 marked row p q = sets row (width * marks spacing (p .bytes)) (written fourCounts (passed p q))
 
-pub record Ahead (p : Place) (size : ℕ) (row : List ℕ) : Type 0 where
+pub record Ahead (p : Place) (size ends : ℕ) (row : List ℕ) : Type 0 where
   pub fits : Fits p
   pub some : 0 < size
   pub few : size ≤ longest
+  pub one : ends ≤ 1
   pub within : p .bytes + size ≤ limit
   pub room : needed (p .bytes + size) ≤ length row
 
-pub record Advances (p : Place) (size head : ℕ) (row row′ : List ℕ) (r : Place) : Type 0 where
-  pub place-is : r ≡ behind p size head
-  pub checkpoints : row′ ≡ marked row p (behind p size head)
+pub record Advances (p : Place) (size ends : ℕ) (row row′ : List ℕ) (r : Place) : Type 0 where
+  pub place-is : r ≡ behind p size ends
+  pub checkpoints : row′ ≡ marked row p (behind p size ends)
 
 -- ---- the settled segments of a text
 
@@ -68,6 +71,15 @@ pub record Walks (from : Place) (text row : List ℕ) : Type 0 where
   pub within : from .bytes + length text ≤ limit
   pub room : needed (from .bytes + length text) ≤ length row
 
+-- how many bytes of a text are settled by the segment that is told to stand first in it: none of a lone 0D
+abbrev pub settledBy : List ℕ → First → ℕ
+settledBy text seg = cond (waitsBehind text []) 0 (settledSize seg)
+
+-- nothing of a text is settled, as it is empty or a lone 0D
+abbrev pub isLeft : List ℕ → Bool
+isLeft [] = true
+isLeft (x ∷ xs) = waitsBehind (x ∷ xs) []
+
 -- the first bytes of a text were walked over: the stream behind it is that behind the rest, from the place reached
 pub record Walked (text : List ℕ) (from : Place) (row₀ row : List ℕ) (p : Place) (at : ℕ) : Type 0 where
   pub inside : at ≤ length text
@@ -84,7 +96,7 @@ pub record Stretches (from : Place) (text : List ℕ) (most : ℕ) (row : List �
 -- none is passed only where none is settled
 pub record Stretched (text : List ℕ) (from : Place) (row row′ : List ℕ) (p : Place) : Type 0 where
   pub walked : Walked text from row row′ p (p .bytes - from .bytes)
-  pub none : p .bytes ≡ from .bytes → total size (firstSettled text) ≡ 0
+  pub none : p .bytes ≡ from .bytes → total size (firstSettled reader text) ≡ 0
 
 -- the state that keeps what is left behind a place
 abbrev pub keeping : List ℕ → Place → ℕ → Builder

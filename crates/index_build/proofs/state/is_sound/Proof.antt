@@ -4,18 +4,19 @@ use mathlib.Core.Bool.{true≢false}
 use borrow.Author.Tests.{not-true, not-false}
 use native.Mathlib.Omega.{arith}
 use Rattle.utf8_pending.proofs.HeldInPlaces.{is-tail}
+use Rattle.place.specs.Measures.{reader}
 use Rattle.index_build.proofs.TestsAsFacts.{unsound, sound-units}
 use borrow.Author.Needs.{needs}
 use Rattle.index_build.proofs.state.is_sound.Statement.{statement}
 use Rattle.index_build.proofs.state.is_sound.Tie as tie
 
-is-tail-requires : tie.Need-is-tail-requires
-is-tail-requires c κs = search needs
+is-kept-requires : tie.Need-is-kept-requires
+is-kept-requires c κs = search needs
 
 returns : tie.Need-returns
 returns c =
     unsound (c .before .before .before .args .state)
-    (λ s. true≢false (sym (is-tail _ _ (s .tail)) ∙ sym (c .before .is-tail .ensures) ∙ not-true _ (c .if1 .taken)))
+    (λ s. true≢false (sym (is-tail reader _ _ (s .tail)) ∙ sym (c .before .is-kept .ensures) ∙ not-true _ (c .if1 .taken)))
 
 returns-2 : tie.Need-returns-2
 returns-2 c = unsound (c .before .before .before .before .before .args .state) (λ s. omega (arith, s .within, c .if2 .taken))
@@ -41,9 +42,9 @@ returns-6 c =
     let v = l .before .before in
     let w = v .before .before in
     let t = w .before in
-    sound-units (t .before .before .args .state) (sym (t .is-tail .ensures) ∙ not-false _ (w .if1 .left))
+    sound-units (t .before .before .args .state) (sym (t .is-kept .ensures) ∙ not-false _ (w .if1 .left))
     (v .if2 .left) (l .if3 .left) (p .if4 .left) (u .if5 .left)
 
 pub is-sound-spec : {M : Type 1} → statement M
 is-sound-spec =
-    tie.close (tie.spec is-tail-requires returns returns-2 returns-3 returns-4 returns-5 returns-6)
+    tie.close (tie.spec is-kept-requires returns returns-2 returns-3 returns-4 returns-5 returns-6)
