@@ -1,13 +1,14 @@
 -- THE MARKED EXAMPLES HOLD, by computation.
 use mathlib.Core.Path.{refl}
-use Rattle.theory.specs.Reader.{cutFrom, cut}
+use Rattle.theory.specs.Reader.{cutFrom, cut, partsFrom, parts}
 use Rattle.utf8.specs.Bytes.{rows, bytes}
+use Rattle.place.specs.Lines.{endsLine, waitsBehind}
 use Rattle.utf16.specs.Units.{units}
 use Rattle.utf16.specs.Units as utf16
 use Rattle.demand_examples.specs.Marked.{Marked}
 
 pub marked : Marked
-unfolding cutFrom cut rows bytes utf16.rows units
+unfolding cutFrom cut partsFrom parts rows bytes utf16.rows units endsLine waitsBehind
 marked = record {
   empty-checks = refl;
   empty-checkpoint = refl;
@@ -37,4 +38,6 @@ marked = record {
   byte-inside = refl;
   byte-past = refl;
   line-past = refl;
+  sent-places = refl;
+  sent-left = refl;
 }

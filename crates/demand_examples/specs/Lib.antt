@@ -1,2 +1,2 @@
--- The paper's marked examples as a single statement about the definitions
+-- The paper's marked examples, and one of lines, as a single statement about the definitions
 pub mod Marked

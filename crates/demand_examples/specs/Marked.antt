@@ -1,9 +1,9 @@
--- The paper's marked examples as a single statement about the definitions.
+-- The paper's marked examples, and one of lines, as a single statement about the definitions.
 use mathlib.Core.Path.{_≡_}
 use Prim.Native.Nat.{ℕ}
 use mathlib.Core.List.{List, [], _∷_, map}
 use Rattle.theory.specs.Tally.{written}
-use Rattle.theory.specs.Reader.{Reader, cut}
+use Rattle.theory.specs.Reader.{Reader, cut, parts}
 use Rattle.theory.specs.Table.{Kind, causeOf}
 use Rattle.theory.specs.Place.{Found, inside, past, places, plain}
 use Rattle.terms.specs.Form.{Form, pointOf, repaired, converted}
@@ -12,7 +12,7 @@ use Rattle.utf8.specs.Bytes.{bytes}
 use Rattle.utf8.specs.Scalar.{utf8}
 use Rattle.utf16.specs.Units.{units}
 use Rattle.utf16.specs.Scalar.{utf16}
-use Rattle.place.specs.Measures.{place, ruler}
+use Rattle.place.specs.Measures.{place, ruler, reader}
 use Rattle.place.specs.declared.Place.{Place}
 use Rattle.index_checkpoint.specs.Checkpoints.{indexOf}
 
@@ -26,10 +26,14 @@ pointsOf F text = written (λ s. pointOf F s ∷ []) (cut (F .look) text)
 
 -- the places of a text, asked for by one of the measures
 abbrev by : (Place → ℕ) → ℕ → List ℕ → Found Place
-by measure offset text = plain bytes ruler measure offset text
+by measure offset text = plain reader ruler measure offset text
 
 abbrev mixed : List ℕ
 mixed = 0x41 ∷ 0xE2 ∷ 0x82 ∷ 0xAC ∷ 0xF0 ∷ 0x9F ∷ 0x9A ∷ 0x86 ∷ 0x80 ∷ 0x0A ∷ 0x42 ∷ []
+
+-- lines as senders write them: 0D 0A, a lone 0D, 0B, which ends none, C2 85, E2 80 A9, a damaged C2, and a 0D that ends the text
+abbrev sent : List ℕ
+sent = 0x0D ∷ 0x0A ∷ 0x0D ∷ 0x0B ∷ 0xC2 ∷ 0x85 ∷ 0xE2 ∷ 0x80 ∷ 0xA9 ∷ 0xC2 ∷ 0x0D ∷ []
 
 pub record Marked : Type 0 where
   pub empty-checks : checkSays bytes [] ≡ 0 ∷ []
@@ -62,9 +66,13 @@ pub record Marked : Type 0 where
   pub swapped-damages : hurt units (0xDE86 ∷ 0xD83D ∷ []) ≡ (0, 1, 1) ∷ (1, 1, 4) ∷ []
   pub mixed-damages : hurt bytes mixed ≡ (8, 1, 1) ∷ []
   pub mixed-places :
-      places bytes ruler mixed
+      places reader ruler mixed
       ≡ place 0 0 0 0 ∷ place 1 1 1 0 ∷ place 4 2 2 0 ∷ place 8 4 3 0 ∷ place 9 5 4 0 ∷ place 10 6 5 1 ∷ place 11 7 6 1 ∷ []
   pub unit-inside : by (λ p. p .units) 3 mixed ≡ inside
   pub byte-inside : by (λ p. p .bytes) 2 mixed ≡ inside
   pub byte-past : by (λ p. p .bytes) 12 mixed ≡ past
   pub line-past : by (λ p. p .lines) 2 mixed ≡ past
+  pub sent-places :
+      places reader ruler sent
+      ≡ place 0 0 0 0 ∷ place 1 1 1 0 ∷ place 2 2 2 1 ∷ place 3 3 3 2 ∷ place 4 4 4 2 ∷ place 6 5 5 3 ∷ place 9 6 6 4 ∷ place 10 7 7 4 ∷ place 11 8 8 5 ∷ []
+  pub sent-left : parts reader sent .left ≡ 0x0D ∷ []

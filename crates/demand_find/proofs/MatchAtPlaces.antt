@@ -6,15 +6,17 @@ use mathlib.Core.Bool.{true≢false}
 use mathlib.Core.List.{List, [], _∷_, foldl}
 use lib.ListN.{length, getD}
 use lib.Dec.{eqb}
+use Rattle.theory.proofs.LinesDivide.{Parted}
 use Rattle.theory.proofs.PlacesFound.{bytes-foldl}
 use Rattle.terms.specs.Limits.{limit}
 use Rattle.terms.specs.Told.{toldRefusal}
 use Rattle.terms.specs.declared.Refusal.{Refusal}
 use Rattle.terms.proofs.ToldBack.{no-zero}
-use Rattle.place.specs.Measures.{ruler}
+use Rattle.place.specs.Measures.{ruler, reader}
 use Rattle.place.specs.Lookup.{fourCounts, lookupSays}
 use Rattle.place.specs.declared.Place.{Place}
 use Rattle.place.proofs.MeasuresRise.{measured, bytes-rise}
+use Rattle.place.proofs.ReaderDivides.{reader-parted}
 use Rattle.place.proofs.FoundByCounts.{place-finds}
 use Rattle.find.specs.Match.{findSays}
 use Rattle.find.specs.Boundaries.{Boundary}
@@ -30,14 +32,18 @@ boundary-place text offset h b =
       granted =
           subst (λ (o : ℕ). lookupSays (λ p. p .bytes) o text ≡ 0 ∷ fourCounts q) there
           (place-finds (λ p. p .bytes) bytes-rise text h q
-          (record { front = b .front; behind = b .behind; joined = b .divided; place = refl }));
+          (record { front = d .front; behind = d .behind; joined = d .divided; place = refl }));
     }
   where
+    -- the reader of places has the same boundaries
+    d : Parted reader text offset
+    d = reader-parted (record { front = b .front; behind = b .behind; divided = b .divided; sized = b .sized })
+
     q : Place
-    q = foldl (ruler .step) (ruler .zeroth) (b .front)
+    q = foldl (ruler .step) (ruler .zeroth) (d .front)
 
     there : q .bytes ≡ offset
-    there = bytes-foldl measured (ruler .zeroth) (b .front) ∙ zero-add _ ∙ b .sized
+    there = bytes-foldl measured (ruler .zeroth) (d .front) ∙ zero-add _ ∙ d .sized
 
 module _ (entry needle : List ℕ) (k : ℕ) (e : 0 ∷ k ∷ [] ≡ findSays entry needle) where
   pub starts-at-place : IsPlace entry k

@@ -68,6 +68,16 @@ fn across() {
     build(&text, &mut row);
 }
 
+// The text is cut and a checkpoint's byte lies between 0D and 0A: the line ends behind the 0A.
+fn between() {
+    let mut text = [0x41u8; 512];
+    let mut row = [0u32; 12];
+    text[255] = 0x0D;
+    text[256] = 0x0A;
+    build(&text, &mut row);
+    lookups(&text, &row, 1);
+}
+
 // The index of 300 letters, true and then with a false number in its second checkpoint.
 fn falsified() {
     let text = [0x41u8; 300];
@@ -83,5 +93,6 @@ pub(crate) fn examples() {
     crate::show::number(moxandril::index::needed(300));
     end();
     across();
+    between();
     falsified();
 }

@@ -67,6 +67,13 @@ fn all(text: &[u8]) {
     cuts(text, 3);
 }
 
+// Lines as senders write them: 0D 0A, a lone 0D, C2 85, E2 80 A8, and a 0D that ends the text.
+fn lines(text: &[u8]) {
+    lookups(text, 1);
+    lookups(text, 2);
+    lookups(text, 5);
+}
+
 pub(crate) fn examples() {
     let from = Place {
         bytes: 4,
@@ -75,6 +82,7 @@ pub(crate) fn examples() {
         lines: 0,
     };
     all(b"\x41\xE2\x82\xAC\xF0\x9F\x9A\x86\x80\x0A\x42");
+    lines(b"\x41\x0D\x0A\x0D\xC2\x85\xE2\x80\xA8\x0D");
     onward(from, b"\xF0\x9F\x9A\x86\x80\x0A\x42", 4);
     onward(from, b"\xF0\x9F\x9A\x86\x80\x0A\x42", 3);
 }

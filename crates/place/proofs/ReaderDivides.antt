@@ -8,7 +8,7 @@ use native.Mathlib.Omega.{arith}
 use Rattle.theory.specs.Reader.{cut}
 use Rattle.theory.specs.Lines.{bare}
 use Rattle.theory.proofs.Divisions.{Division, Holds}
-use Rattle.theory.proofs.LinesDivide.{Firm, lined-cut, lined-division, lined-holds}
+use Rattle.theory.proofs.LinesDivide.{Firm, Parted, lined-cut, lined-parted, parted-bare, lined-division, lined-holds}
 use Rattle.terms.specs.Limits.{mostPending}
 use Rattle.utf8.specs.Bytes.{bytes}
 use Rattle.utf8.proofs.RowsOfBytes.{bytes-division, bytes-hold, bytes-top}
@@ -41,6 +41,14 @@ line-firm = record { stays = stays; short = short }
 
 pub reader-cut : (text : List ℕ) → map bare (cut reader text) ≡ cut bytes text
 reader-cut = lined-cut bytes lineRule
+
+pub reader-parted : {text : List ℕ} {n : ℕ} → Parted bytes text n → Parted reader text n
+reader-parted = lined-parted bytes lineRule
+
+pub parted-bytes : {text : List ℕ} {n : ℕ} → Parted reader text n → Parted bytes text n
+parted-bytes = parted-bare bytes lineRule
+
+-- ---- and its laws
 
 pub reader-division : Division reader
 reader-division = lined-division bytes-division line-firm

@@ -1,14 +1,14 @@
 -- A READER OF LINES DIVIDES AS THE READER BELOW IT, for any rule that does not change its mind: the same segments, and little held back.
-use mathlib.Core.Path.{_≡_, refl, sym, ap, _∙_}
-use Prim.Native.Nat.{ℕ, suc, _≤_}
+use mathlib.Core.Path.{_≡_, refl, sym, ap, ap₂, _∙_}
+use Prim.Native.Nat.{ℕ, suc, _+_, _≤_}
 use mathlib.Core.Bool.{true, false, not, _&&_}
-use mathlib.Core.List.{List, [], _∷_, _++_, map}
+use mathlib.Core.List.{List, [], _∷_, _++_, map, map-append}
 use lib.ListN.{length, take, drop, length-drop}
 use lib.Seq.{take-append-le, drop-append-le}
 use borrow.Author.Tests.{not-true}
 use native.Mathlib.Omega.{arith}
 use Rattle.theory.specs.Reader.{Look, Reader, Segment, body, first, rest, cut}
-use Rattle.theory.specs.Tally.{size}
+use Rattle.theory.specs.Tally.{total, size}
 use Rattle.theory.specs.Lines.{Lined, bare, Rule, lined}
 use Rattle.theory.proofs.Cases.{split, both}
 use Rattle.theory.proofs.Divisions.{Division, Holds, by-segments, cut-nil, cut-cons, first-size}
@@ -25,6 +25,57 @@ module _ {K : Type 0} (look : Reader K) (rule : Rule) where
   lined-cut = by-segments look (λ (xs : List ℕ). map bare (cut (lined look rule) xs) ≡ cut look xs)
       (rw (cut-nil look, cut-nil (lined look rule)))
       (λ x xs ih. rw (cut-cons look x xs, cut-cons (lined look rule) x xs, ih))
+
+-- some segments of so many elements in front, and others behind them
+pub record Parted {K : Type 0} (look : Reader K) (text : List ℕ) (n : ℕ) : Type 0 where
+  pub front : List (Segment K)
+  pub behind : List (Segment K)
+  pub divided : cut look text ≡ front ++ behind
+  pub sized : total size front ≡ n
+
+-- a list whose image is in two parts is in two parts
+record Halves {A B : Type 0} (f : A → B) (l : List A) (xs : List B) : Type 0 where
+  front : List A
+  behind : List A
+  joined : l ≡ front ++ behind
+  image : map f front ≡ xs
+
+halves : {A B : Type 0} (f : A → B) (l : List A) (xs ys : List B) → map f l ≡ xs ++ ys → Halves f l xs
+halves f l [] ys e = record { front = []; behind = l; joined = refl; image = refl }
+halves f [] (x ∷ xs) ys e = let z : _≡_ {A = ℕ} 0 1 = cc in absurd (omega arith)
+halves {A = A} f (a ∷ l) (x ∷ xs) ys e =
+    let h = halves f l xs ys (cc) in
+    let i : f a ≡ x = cc in
+    record {
+      front = a ∷ h .front;
+      behind = h .behind;
+      joined = ap (λ (r : List A). a ∷ r) (h .joined);
+      image = ap₂ _∷_ i (h .image);
+    }
+
+bare-size : {K : Type 0} (ss : List (Segment (Lined K))) → total size (map bare ss) ≡ total size ss
+bare-size [] = refl
+bare-size (s ∷ ss) = ap (λ (k : ℕ). size s + k) (bare-size ss)
+
+module _ {K : Type 0} (look : Reader K) (rule : Rule) {text : List ℕ} {n : ℕ} where
+  -- THE SAME BOUNDARIES, both ways
+  pub lined-parted : Parted look text n → Parted (lined look rule) text n
+  lined-parted p =
+      let h = halves bare (cut (lined look rule) text) (p .front) (p .behind) (lined-cut look rule text ∙ p .divided) in
+      record {
+        front = h .front;
+        behind = h .behind;
+        divided = h .joined;
+        sized = sym (bare-size (h .front)) ∙ ap (total size) (h .image) ∙ p .sized;
+      }
+
+  pub parted-bare : Parted (lined look rule) text n → Parted look text n
+  parted-bare p = record {
+    front = map bare (p .front);
+    behind = map bare (p .behind);
+    divided = sym (lined-cut look rule text) ∙ ap (map bare) (p .divided) ∙ map-append bare (p .front) (p .behind);
+    sized = bare-size (p .front) ∙ p .sized;
+  }
 
 module _ {K : Type 0} {look : Reader K} (D : Division look) {rule : Rule} {hold : ℕ} (F : Firm rule hold) where
   -- what is made of a look
