@@ -4,3 +4,5 @@ pub mod CountsByBlocks
 pub mod SumsOfSegments
 -- Line ends over parts of a text: byte by byte and part by part, few, and none that begins with a later byte
 pub mod LineEndsAdd
+-- A part of a text in a row that is filled up with 0: its line ends
+pub mod LineEndsInRow

@@ -64,7 +64,7 @@ end-nothing = refl
 
 -- ---- in the first n bytes
 
-ends-nothing : (n : ℕ) → endsIn n [] ≡ 0
+pub ends-nothing : (n : ℕ) → endsIn n [] ≡ 0
 ends-nothing zero = refl
 ends-nothing (suc n) = omega (arith, end-nothing, ends-nothing n)
 
@@ -90,8 +90,11 @@ pub ends-one : (n : ℕ) (text : List ℕ) → endsIn (n + 1) text ≡ endsIn n 
 ends-one n text = omega (arith, ends-add n 1 text)
 
 pub ends-next : (n : ℕ) (text : List ℕ)
-    → endsIn (n + 1) text ≡ endsIn n text + endOf (getD text n 0) (getD text (n + 1) 0) (getD text (n + 2) 0)
-ends-next n text = rw (ends-one n text, getD-drop n text 0 0, getD-drop n text 1 0, getD-drop n text 2 0, add-zero n)
+    → endsIn (n + 1) text ≡ endsIn n text + endOf (getD text n 0) (getD (drop 1 text) n 0) (getD (drop 2 text) n 0)
+ends-next n text =
+    let one : n + 1 ≡ 1 + n = omega arith in
+    let two : n + 2 ≡ 2 + n = omega arith in
+    rw (ends-one n text, getD-drop n text 0 0, getD-drop n text 1 0, getD-drop n text 2 0, add-zero n, getD-drop 1 text n 0, getD-drop 2 text n 0, one, two)
 
 -- there is nothing behind the end
 pub ends-over : (n : ℕ) (text : List ℕ) → length text ≤ n → endsIn n text ≡ endsIn (length text) text
@@ -136,8 +139,10 @@ even-next text n ends odd e =
     record {
       ends-at-most = omega (arith, e .ends-at-most, either-few (eqb x 0x0A) 1 0 (omega arith) (omega arith));
       odd-at-most = omega (arith, e .odd-at-most, odd-few x);
-      ends-are = λ z.
+      ends-are = λ none.
           let a : ends ≡ endsIn n text = e .ends-are (omega arith) in
-          let b : endOf x (getD text (n + 1) 0) (getD text (n + 2) 0) ≡ cond (eqb x 0x0A) 1 0 = end-even x (getD text (n + 1) 0) (getD text (n + 2) 0) (omega arith) in
+          let y : ℕ = getD (drop 1 text) n 0 in
+          let z : ℕ = getD (drop 2 text) n 0 in
+          let b : endOf x y z ≡ cond (eqb x 0x0A) 1 0 = end-even x y z (omega arith) in
           rw (ends-next n text, b, a);
     }

@@ -1,11 +1,11 @@
 // The line ends of a byte text: one, and those of a part.
 ghost use mathlib.Core.Path.{_≡_};
 ghost use mathlib.Core.Bool.{true, cond};
-ghost use Prim.Native.Nat.{ℕ, _+_, _≤_};
+ghost use Prim.Native.Nat.{ℕ, _+_, _≤_, min};
 ghost use lib.Dec.{eqb};
-ghost use lib.ListN.{length, getD};
+ghost use lib.ListN.{length, getD, drop};
 ghost use Rattle.utf8_count.specs.Counts.{endOf, endFirst, endsIn};
-ghost use Rattle.utf8_count.specs.Inside.Ends.{oddOf};
+ghost use Rattle.utf8_count.specs.Inside.Ends.{oddOf, ZeroFrom};
 
 // y where x is a. Selects and no branches, so that a loop over it is wide.
 fn pick(x: u8, a: u8, y: u8, other: u8) -> u8
@@ -64,33 +64,33 @@ fn odd_of(x: u8) -> u8
     pick(x, 0x0D, 1, pick(x, 0xC2, 1, pick(x, 0xE2, 1, 0)))
 }
 
-// Those of the first n bytes, where two more stand behind them, by looking at all three.
-fn every(text: &[u8], n: usize) -> usize
-    requires { ⌜ (n ≤ 128) × (n + 2 ≤ length (now text)) ⌝ }
-    ensures { λ r. ⌜ r ≡ endsIn n (now (text .entry)) ⌝ }
+// Those of the first 128 bytes, by looking at the two behind each: so that a loop is wide, they are lent by themselves.
+fn every(text: &[u8], next: &[u8], third: &[u8]) -> usize
+    requires { ⌜ (130 ≤ length (now text)) × (now next ≡ drop 1 (now text)) × (now third ≡ drop 2 (now text)) ⌝ }
+    ensures { λ r. ⌜ r ≡ endsIn 128 (now (text .entry)) ⌝ }
 {
     let mut ends: u8 = 0;
-    for k in 0..n {
-        ends += end_of(text[k], text[k + 1], text[k + 2]);
+    for k in 0..128 {
+        ends += end_of(text[k], next[k], third[k]);
     }
     crate::wide(ends)
 }
 
-// The same: most texts have only 0A, which is found by looking at one.
-fn part(text: &[u8], n: usize) -> usize
-    requires { ⌜ (n ≤ 128) × (n + 2 ≤ length (now text)) ⌝ }
-    ensures { λ r. ⌜ r ≡ endsIn n (now (text .entry)) ⌝ }
+// Those of the first 128 bytes, where two more stand behind them: most texts have only 0A, which is found by looking at one.
+fn block_ends(text: &[u8]) -> usize
+    requires { ⌜ 130 ≤ length (now text) ⌝ }
+    ensures { λ r. ⌜ r ≡ endsIn 128 (now (text .entry)) ⌝ }
 {
     let mut ends: u8 = 0;
     let mut odd: u8 = 0;
-    for k in 0..n {
+    for k in 0..128 {
         ends += pick(text[k], 0x0A, 1, 0);
         odd += odd_of(text[k]);
     }
     if odd == 0 {
         return crate::wide(ends);
     }
-    every(text, n)
+    every(text, &text[1..], &text[2..])
 }
 
 // Byte by byte.
@@ -107,20 +107,43 @@ fn slow(text: &[u8], n: usize) -> usize
 }
 
 fn smaller(a: usize, b: usize) -> usize
-    ensures { λ r. ⌜ (r ≤ a) × (r ≤ b) ⌝ }
+    ensures { λ r. ⌜ r ≡ min a b ⌝ }
 {
     if a < b { a } else { b }
 }
 
-// Fewer than a block, or near the end of the text: the last bytes have no two behind them.
+// Of a row that has 0 from n + 2 on: the two behind the first n are counted with them, and taken off.
+fn in_row(row: &[u8], n: usize) -> usize
+    requires { ⌜ (n ≤ 126) × (length (now row) ≡ 130) × ZeroFrom (n + 2) (now row) ⌝ }
+    ensures { λ r. ⌜ r ≡ endsIn n (now (row .entry)) ⌝ }
+{
+    block_ends(row) - slow(&row[n..], 2)
+}
+
+// Fewer than a block: they and the two behind them are counted in one that is filled up with 0, which ends no line.
+fn filled(text: &[u8], n: usize) -> usize
+    requires { ⌜ n ≤ 126 ⌝ }
+    ensures { λ r. ⌜ r ≡ endsIn n (now (text .entry)) ⌝ }
+{
+    let mut row = [0u8; 130];
+    let m = smaller(n + 2, text.len());
+    let mut i: usize = 0;
+    while i < m {
+        row[i] = text[i];
+        i += 1;
+    }
+    in_row(&row, n)
+}
+
+// Fewer than a block, or near the end of the text.
 fn few(text: &[u8], n: usize) -> usize
     ensures { λ r. ⌜ r ≡ endsIn n (now (text .entry)) ⌝ }
 {
-    if text.len() < 16 {
+    let m = smaller(smaller(n, text.len()), 126);
+    if m < 16 {
         return slow(text, n);
     }
-    let m = smaller(smaller(n, text.len() - 2), 128);
-    part(text, m) + slow(&text[m..], n - m)
+    filled(text, m) + slow(&text[m..], n - m)
 }
 
 // The line ends that begin in the first n bytes; those behind them are looked at and not counted.
@@ -130,7 +153,7 @@ pub fn line_ends(text: &[u8], n: usize) -> usize
     let mut ends: usize = 0;
     let mut at: usize = 0;
     while 128 <= n - at && 130 <= text.len() - at {
-        ends += part(&text[at..], 128);
+        ends += block_ends(&text[at..]);
         at += 128;
     }
     if at == n {

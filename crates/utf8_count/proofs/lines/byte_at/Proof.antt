@@ -1,7 +1,6 @@
 -- `byte_at` meets its contract: behind the end there is 0.
 use borrow.Author.Needs.{needs}
 use lib.ListN.{List·getD-eq-default}
-use native.Mathlib.Omega.{arith}
 use Rattle.utf8_count.proofs.lines.byte_at.Statement.{statement}
 use Rattle.utf8_count.proofs.lines.byte_at.Tie as tie
 

@@ -9,35 +9,32 @@ use Rattle.utf8_count.proofs.LineEndsAdd.{ends-few, ends-split}
 use Rattle.utf8_count.proofs.lines.few.Statement.{statement}
 use Rattle.utf8_count.proofs.lines.few.Tie as tie
 
-slow-requires : tie.Need-slow-requires
-slow-requires c κs = search needs
-
-returns : tie.Need-returns
-returns c = search needs
-
-sub-smaller : tie.Need-sub-smaller
-sub-smaller c = search needs
-
 smaller-requires : tie.Need-smaller-requires
 smaller-requires c κs = search needs
 
 smaller-requires-2 : tie.Need-smaller-requires-2
 smaller-requires-2 c κs = search needs
 
-part-requires : tie.Need-part-requires
-part-requires c κs = search needs
+slow-requires : tie.Need-slow-requires
+slow-requires c κs = search needs
+
+returns : tie.Need-returns
+returns c = c .slow .ensures
+
+filled-requires : tie.Need-filled-requires
+filled-requires c κs = let m = c .before in omega (arith, m .smaller2 .ensures)
 
 sub-slow : tie.Need-sub-slow
-sub-slow c = search needs
+sub-slow c = let m = c .before .before in omega (arith, m .smaller2 .ensures, m .before .smaller .ensures)
 
 part-slow-start : tie.Need-part-slow-start
-part-slow-start c = search needs
+part-slow-start c = let m = c .before .before in omega (arith, m .smaller2 .ensures, m .before .smaller .ensures)
 
 part-slow-end : tie.Need-part-slow-end
 part-slow-end c = search needs
 
 sub-slow-2 : tie.Need-sub-slow-2
-sub-slow-2 c = search needs
+sub-slow-2 c = let m = c .before .before .before in omega (arith, m .smaller2 .ensures, m .before .smaller .ensures)
 
 slow-requires-2 : tie.Need-slow-requires-2
 slow-requires-2 c κs = search needs
@@ -45,13 +42,13 @@ slow-requires-2 c κs = search needs
 both : (c : tie.After-slow2)
     → let p = c .before .before in
     let z = p .before .before .before .before .before in
-    p .part .result + c .slow2 .result ≡ endsIn (z .args .n) (z .args .text .now)
+    p .filled .result + c .slow2 .result ≡ endsIn (z .args .n) (z .args .text .now)
 both c =
     let p = c .before .before in
-    let m = p .before in
+    let m = p .before .before in
     let s = m .before in
-    let z = s .before .before .before in
-    rw (p .part .ensures, c .slow2 .ensures, part-is (z .args .text .now) (m .smaller2 .result))
+    let z = s .before .before in
+    rw (p .filled .ensures, c .slow2 .ensures, part-is (z .args .text .now) (m .smaller2 .result))
     (ends-split (z .args .n) (m .smaller2 .result) (z .args .text .now) (omega (arith, m .smaller2 .ensures, s .smaller .ensures)))
 
 add-result : tie.Need-add-result
@@ -66,12 +63,11 @@ pub few-spec : {M : Type 1} → statement M
 few-spec =
     tie.close
     (tie.spec
-    slow-requires
-    returns
-    sub-smaller
     smaller-requires
     smaller-requires-2
-    part-requires
+    slow-requires
+    returns
+    filled-requires
     sub-slow
     part-slow-start
     part-slow-end

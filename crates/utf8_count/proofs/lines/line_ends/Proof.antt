@@ -26,14 +26,14 @@ sub-loop c = search needs
 sub-if1 : tie.Need-sub-if1 Inv-loop μ-loop
 sub-if1 c = search needs
 
-sub-part : tie.Need-sub-part Inv-loop μ-loop
-sub-part c = search needs
+sub-block-ends : tie.Need-sub-block-ends Inv-loop μ-loop
+sub-block-ends c = search needs
 
-part-part-start : tie.Need-part-part-start Inv-loop μ-loop
-part-part-start c = search needs
+part-block-ends-start : tie.Need-part-block-ends-start Inv-loop μ-loop
+part-block-ends-start c = search needs
 
-part-part-end : tie.Need-part-part-end Inv-loop μ-loop
-part-part-end c = search needs
+part-block-ends-end : tie.Need-part-block-ends-end Inv-loop μ-loop
+part-block-ends-end c = search needs
 
 -- there are two bytes behind a block
 long : (c : tie.Then1 Inv-loop μ-loop)
@@ -43,26 +43,26 @@ long c =
     let l = c .before .before in
     leb-true 130 (length (l .before .before .args .text .now) - l .loop .at) (c .if1 .taken)
 
-part-requires : tie.Need-part-requires Inv-loop μ-loop
-part-requires c κs =
+block-ends-requires : tie.Need-block-ends-requires Inv-loop μ-loop
+block-ends-requires c κs =
     let l = c .before .before .before in
     let text = l .before .before .args .text .now in
-    rw (part-is text (l .loop .at)) (omega arith, omega (arith, length-drop (l .loop .at) text, long (c .before)))
+    rw (part-is text (l .loop .at)) (omega (arith, length-drop (l .loop .at) text, long (c .before)))
 
 -- a block more
-passed : (c : tie.After-part Inv-loop μ-loop)
+passed : (c : tie.After-block-ends Inv-loop μ-loop)
     → let l = c .before .before .before .before in
     let z = l .before .before in
     let text = z .args .text .now in
     let at = l .loop .at + 128 in
-    (at ≤ z .args .n) × (at ≤ length text) × (l .loop .ends + c .part .result ≡ endsIn at text)
+    (at ≤ z .args .n) × (at ≤ length text) × (l .loop .ends + c .block-ends .result ≡ endsIn at text)
 passed c =
     let t = c .before .before in
     let l = t .before .before in
     let text = l .before .before .args .text .now in (
       omega (arith, t .before .loop-test .taken),
       omega (arith, long t),
-      rw (ends-add (l .loop .at) 128 text, l .loop .inv .2, c .part .ensures, part-is text (l .loop .at)),
+      rw (ends-add (l .loop .at) 128 text, l .loop .inv .2, c .block-ends .ensures, part-is text (l .loop .at)),
     )
 
 add-ends : tie.Need-add-ends Inv-loop μ-loop
@@ -128,10 +128,10 @@ line-ends-spec =
     loop-holds
     sub-loop
     sub-if1
-    sub-part
-    part-part-start
-    part-part-end
-    part-requires
+    sub-block-ends
+    part-block-ends-start
+    part-block-ends-end
+    block-ends-requires
     add-ends
     add-at
     loop-less

@@ -1,18 +1,19 @@
--- `part` meets its contract: where only 0A is there, it is counted; or all is looked at.
+-- `block_ends` meets its contract: where only 0A is there, it is counted; or all is looked at.
 use borrow.Author.Needs.{needs}
 use mathlib.Core.Path.{_≡_, ap, _∙_}
 use Prim.Native.Nat.{ℕ, _-_, _≤_}
 use native.Mathlib.Omega.{arith}
+use Rattle.terms.proofs.WalkBySegments.{part-is}
 use Rattle.utf8_count.specs.Counts.{endsIn}
 use Rattle.utf8_count.proofs.LineEndsAdd.{Even, even-none, even-next}
-use Rattle.utf8_count.proofs.lines.part.Statement.{statement}
-use Rattle.utf8_count.proofs.lines.part.Tie as tie
+use Rattle.utf8_count.proofs.lines.block_ends.Statement.{statement}
+use Rattle.utf8_count.proofs.lines.block_ends.Tie as tie
 
 abbrev Inv-loop : tie.InvT-loop
-Inv-loop text n ends₀ odd₀ k₀ ends odd k = (k ≤ n) × Even text k ends odd
+Inv-loop text ends₀ odd₀ k₀ ends odd k = (k ≤ 128) × Even text k ends odd
 
 abbrev μ-loop : tie.MeasureT-loop
-μ-loop text n ends₀ odd₀ k₀ ends odd k = n - k
+μ-loop text ends₀ odd₀ k₀ ends odd k = 128 - k
 
 loop-holds : tie.Need-loop-holds Inv-loop μ-loop
 loop-holds c = (omega arith, even-none (c .before .args .text .now))
@@ -28,7 +29,7 @@ add-ends c =
     let l = c .before .before .before in
     let z = l .before .before in
     let e = even-next (z .args .text .now) (l .loop .k) (l .loop .ends) (l .loop .odd) (l .loop .inv .1) in
-    omega (arith, e .ends-at-most, c .pick .ensures, z .pre)
+    omega (arith, e .ends-at-most, c .pick .ensures)
 
 shared-slice-read-odd-of : tie.Need-shared-slice-read-odd-of Inv-loop μ-loop
 shared-slice-read-odd-of c = search needs
@@ -41,7 +42,7 @@ add-odd c =
     let l = c .before .before .before .before .before in
     let z = l .before .before in
     let e = even-next (z .args .text .now) (l .loop .k) (l .loop .ends) (l .loop .odd) (l .loop .inv .1) in
-    omega (arith, e .odd-at-most, c .odd-of .ensures, z .pre)
+    omega (arith, e .odd-at-most, c .odd-of .ensures)
 
 add-k : tie.Need-add-k Inv-loop μ-loop
 add-k c = search needs
@@ -66,17 +67,37 @@ returns c =
     let i = c .before in
     let l = i .before .before in
     let z = l .before .before in
-    let e : l .loop .k ≡ z .args .n = omega arith in
+    let e : l .loop .k ≡ 128 = omega arith in
     c .wide .ensures ∙ l .loop .inv .1 .ends-are (i .if1 .taken) ∙ ap (λ (k : ℕ). endsIn k (z .args .text .now)) e
 
+sub-every : tie.Need-sub-every Inv-loop μ-loop
+sub-every c = search needs
+
+part-every-start : tie.Need-part-every-start Inv-loop μ-loop
+part-every-start c = omega (arith, c .before .before .before .before .pre)
+
+part-every-end : tie.Need-part-every-end Inv-loop μ-loop
+part-every-end c = search needs
+
+sub-every-2 : tie.Need-sub-every-2 Inv-loop μ-loop
+sub-every-2 c = search needs
+
+part-every-start-2 : tie.Need-part-every-start-2 Inv-loop μ-loop
+part-every-start-2 c = omega (arith, c .before .before .before .before .before .pre)
+
+part-every-end-2 : tie.Need-part-every-end-2 Inv-loop μ-loop
+part-every-end-2 c = search needs
+
 every-requires : tie.Need-every-requires Inv-loop μ-loop
-every-requires c κs = c .before .before .before .before .pre
+every-requires c κs =
+    let z = c .before .before .before .before .before .before in
+    (z .pre, part-is (z .args .text .now) 1, part-is (z .args .text .now) 2)
 
 returns-2 : tie.Need-returns-2 Inv-loop μ-loop
 returns-2 c = c .every .ensures
 
-pub part-spec : {M : Type 1} → statement M
-part-spec =
+pub block-ends-spec : {M : Type 1} → statement M
+block-ends-spec =
     tie.close
     (tie.spec
     Inv-loop
@@ -93,5 +114,11 @@ part-spec =
     loop-again
     wide-requires
     returns
+    sub-every
+    part-every-start
+    part-every-end
+    sub-every-2
+    part-every-start-2
+    part-every-end-2
     every-requires
     returns-2)
