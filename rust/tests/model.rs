@@ -310,6 +310,131 @@ fn places_and_lookups() {
     );
 }
 
+/// Where lines end: the last number of each place of a text.
+fn lines(text: &[u8]) -> Vec<usize> {
+    places([0; 4], text).into_iter().map(|p| p[3]).collect()
+}
+
+#[test]
+fn lines_as_senders_write_them() {
+    let ends: [(&[u8], &[usize]); 18] = [
+        (b"\n", &[0, 1]),
+        (b"\r", &[0, 1]),
+        (b"\r\n", &[0, 0, 1]),
+        (b"\n\r", &[0, 1, 2]),
+        (b"\r\r\n\n", &[0, 1, 1, 2, 3]),
+        (b"A\rB", &[0, 0, 1, 1]),
+        (b"\xC2\x85", &[0, 1]),
+        (b"\xE2\x80\xA8\xE2\x80\xA9", &[0, 1, 2]),
+        (b"\r\xC2\x85\n", &[0, 1, 2, 3]),
+        (b"\r\xE2\x80", &[0, 1, 1]),
+        (b"\r\x80\n", &[0, 1, 1, 2]),
+        (b"\xC2\r\x85", &[0, 0, 1, 1]),
+        (b"\xE2\x80", &[0, 0]),
+        (b"\xE2\x80\xA7\xE2\x80\xAA", &[0, 0, 0]),
+        (b"\xE2\x81\xA8\xE1\x80\xA8", &[0, 0, 0]),
+        (b"\xC2\x84\xC2\x86\xC3\x85", &[0, 0, 0, 0]),
+        (b"\x85\x80\xA8", &[0, 0, 0, 0]),
+        (b"\x0B\x0C\x1C\x1E", &[0, 0, 0, 0, 0]),
+    ];
+    for (text, counts) in ends {
+        assert_eq!(lines(text), counts, "{text:02X?}");
+    }
+    let text = b"A\r\n\r";
+    let place = |n: usize, lines| vec![0, n, n, n, lines];
+    assert_eq!(plain(text, 0, 2), place(2, 0), "a place between 0D and 0A");
+    assert_eq!(plain(text, 3, 0), place(0, 0));
+    assert_eq!(plain(text, 3, 1), place(3, 1));
+    assert_eq!(plain(text, 3, 2), place(4, 2));
+    assert_eq!(plain(text, 3, 3), [4]);
+    assert_eq!(cut(text, 0, 2), 2);
+}
+
+/// The numbers of a builder's state behind each of some pieces; then it is ended.
+fn states_behind(pieces: &[&[u8]]) -> Vec<[usize; 8]> {
+    let mut state = Builder::fresh();
+    let numbers = pieces.iter().map(|piece| {
+        let fed = state.feed(piece, 4);
+        assert_eq!(fed.told, [0]);
+        state = fed.state;
+        state.numbers()
+    });
+    let numbers = numbers.collect();
+    let ended = state.finish(4);
+    assert_eq!((ended.told, ended.state), (vec![0], Builder::fresh()));
+    numbers
+}
+
+#[test]
+fn lines_in_pieces() {
+    let pending = [0x0D, 0, 0, 1, 2, 1, 1, 0];
+    let (one, both) = ([0, 0, 0, 0, 3, 3, 3, 1], [0, 0, 0, 0, 4, 4, 4, 2]);
+    assert_eq!(states_behind(&[b"A\r", b"\n"]), [pending, one]);
+    assert_eq!(states_behind(&[b"A\r", b"B"]), [pending, one]);
+    assert_eq!(
+        states_behind(&[b"A\r", b"", b"\n\n"]),
+        [pending, pending, both]
+    );
+    let again = [0x0D, 0, 0, 1, 3, 2, 2, 1];
+    assert_eq!(states_behind(&[b"A\r", b"\r"]), [pending, again]);
+    let begun = [0xE2, 0x80, 0, 2, 4, 2, 2, 1];
+    assert_eq!(states_behind(&[b"A\r", b"\xE2\x80"]), [pending, begun]);
+    let ended = [0, 0, 0, 0, 5, 3, 3, 2];
+    assert_eq!(states_behind(&[b"A\r\xE2\x80", b"\xA8"]), [begun, ended]);
+    let fed = Decoder::fresh(0).feed::<u8>(b"A\r", 2, 0);
+    assert_eq!((fed.output, fed.state.pending), (b"A\r".to_vec(), 0));
+}
+
+/// A checkpoint at a pending 0D is written by the call that settles it.
+#[test]
+fn lines_at_a_checkpoint() {
+    let text = [&[b'A'; 255][..], b"\r"].concat();
+    let fed = Builder::fresh().feed(&text, 8);
+    let numbers = [0x0D, 0, 0, 1, 256, 255, 255, 0];
+    assert_eq!((fed.state.numbers(), fed.later), (numbers, vec![]));
+    let calls = [
+        (fed.state.feed(b"\n", 8), [256, 256, 256, 0]),
+        (fed.state.feed(b"A", 8), [256, 256, 256, 1]),
+        (fed.state.feed(b"\xC2", 8), [256, 256, 256, 1]),
+        (fed.state.finish(8), [256, 256, 256, 1]),
+    ];
+    for (settled, checkpoint) in calls {
+        assert_eq!((settled.from, settled.later), (1, checkpoint.to_vec()));
+    }
+    assert_eq!(fed.state.feed(b"", 8).later, []);
+    assert_eq!(built(&text)[4..], [256, 256, 256, 1]);
+}
+
+/// In a builder a lone 0D may be pending; with another byte, elsewhere or in a decoder it may not.
+#[test]
+fn states_with_a_return() {
+    let sound = |held: [usize; 3], n| {
+        let [a, b, c] = held;
+        let builder = Builder::of(&[a, b, c, n, 9, 5, 5, 1]);
+        let decoder = Decoder::of(&[a, b, c, n, 4 + n, 4, 0, 0, 0]);
+        [builder.is_sound(), decoder.is_sound()]
+    };
+    assert_eq!(sound([0, 0, 0], 0), [true, true]);
+    assert_eq!(sound([0xE2, 0x80, 0], 2), [true, true]);
+    assert_eq!(sound([0x0D, 0, 0], 1), [true, false]);
+    let refused = [
+        ([0x0D, 0, 0], 0),
+        ([0x0D, 0, 0], 2),
+        ([0, 0x0D, 0], 2),
+        ([0x0D, 0x0D, 0], 2),
+        ([0x0D, 0x0A, 0], 1),
+        ([0x0D, 0x0A, 0], 2),
+        ([0x0D, 0xC2, 0], 2),
+        ([0xE2, 0x0D, 0], 2),
+        ([0xE2, 0x80, 0x0D], 2),
+        ([0x0A, 0, 0], 1),
+        ([0x85, 0, 0], 1),
+    ];
+    for (held, n) in refused {
+        assert_eq!(sound(held, n), [false, false], "{n} of {held:02X?}");
+    }
+}
+
 #[test]
 fn the_index() {
     let mut text = vec![b'A'; 254];

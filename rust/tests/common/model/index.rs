@@ -1,5 +1,6 @@
 //! The index: what is built, lookup in any numbers, the audit, and the builder in pieces.
-use super::pending::{elements, hold, is_tail, joined};
+use super::forms::{segments, Segment};
+use super::pending::{elements, hold, is_tail};
 use super::places::{places, walk, Place, BYTES, LINES};
 use super::{over_limit, Told, LIMIT};
 
@@ -81,6 +82,13 @@ pub fn lookup(text: &[u8], row: &[u32], measure: usize, offset: usize) -> Told {
     walk(p, &text[p[BYTES]..], measure, offset)
 }
 
+/// How many bytes at the end of a text that may go on are not settled: a proper beginning of a sequence, or a 0D with nothing behind it.
+fn unsettled(text: &[u8]) -> usize {
+    let is_open = |&(at, s): &(usize, Segment)| !s.sure || text[at..] == [0x0D];
+    let last = segments(text).pop().filter(is_open);
+    last.map_or(0, |(_, s)| s.length)
+}
+
 /// What the builder keeps between two pieces, in any numbers.
 #[derive(Clone, Copy, Debug, PartialEq, Eq)]
 pub struct Builder {
@@ -142,9 +150,15 @@ impl Builder {
         ]
     }
 
-    /// The state's tests.
+    /// The bytes that are pending.
+    fn left(&self) -> Vec<u8> {
+        elements(&self.held[..self.pending])
+    }
+
+    /// The state's tests. What may be pending in a decoder may be so here, and a lone 0D besides.
     pub fn is_sound(&self) -> bool {
-        is_tail::<u8>(self.held, self.pending)
+        let is_return = self.pending == 1 && self.held == [0x0D, 0, 0];
+        (is_return || is_tail::<u8>(self.held, self.pending))
             && self.taken <= LIMIT
             && self.pending <= self.taken
             && self.lines <= self.points
@@ -170,23 +184,25 @@ impl Builder {
         over_limit(taken).or_else(|| (row < need(taken)).then(|| vec![3, need(taken)]))
     }
 
-    /// The state behind a settled stretch from the last settled place, and the checkpoints passed.
-    fn settle(&self, stretch: &[u8]) -> Built {
+    /// The state where all of a text from the last settled place on is taken and its last bytes, so many, are left pending; and the checkpoints
+    /// passed. Places are those of the whole text: whether a line ends is seen from what stands behind, be it pending.
+    fn settle(&self, text: &[u8], left: usize) -> Built {
         let old = self.taken - self.pending;
-        let found = places([old, self.units, self.points, self.lines], stretch);
-        let [new, units, points, lines] = found[found.len() - 1];
-        let from = old / SPACING + 1;
+        let (from, settled) = (old / SPACING + 1, old + text.len() - left);
+        let mut found = places([old, self.units, self.points, self.lines], text);
+        found.retain(|p| p[BYTES] <= settled);
+        let [_, units, points, lines] = found[found.len() - 1];
         Built {
             told: vec![0],
             state: Builder {
-                held: [0; 3],
-                pending: 0,
-                taken: new,
+                held: hold(&text[text.len() - left..]),
+                pending: left,
+                taken: old + text.len(),
                 units,
                 points,
                 lines,
             },
-            later: checkpoints(&found, from, new / SPACING),
+            later: checkpoints(&found, from, settled / SPACING),
             from,
         }
     }
@@ -196,12 +212,8 @@ impl Builder {
         if let Some(told) = self.refusal(piece.len(), row) {
             return self.refuse(told);
         }
-        let (stretch, tail) = joined(self.held, self.pending, piece);
-        let mut done = self.settle(&stretch);
-        done.state.held = hold(&tail);
-        done.state.pending = tail.len();
-        done.state.taken += tail.len();
-        done
+        let text = [&self.left(), piece].concat();
+        self.settle(&text, unsettled(&text))
     }
 
     /// Ends the text.
@@ -209,8 +221,9 @@ impl Builder {
         if let Some(told) = self.refusal(0, row) {
             return self.refuse(told);
         }
-        let mut done = self.settle(&elements(&self.held[..self.pending]));
-        done.state = Builder::fresh();
-        done
+        Built {
+            state: Builder::fresh(),
+            ..self.settle(&self.left(), 0)
+        }
     }
 }

@@ -8,13 +8,24 @@ pub type Place = [usize; 4];
 pub const BYTES: usize = 0;
 pub const LINES: usize = 3;
 
+/// Does a line end after a segment, with this rest of the text behind it? After 0A; after 0D unless 0A follows, so also where 0D ends the
+/// text; and after the whole segments C2 85, E2 80 A8 and E2 80 A9.
+pub fn ends_line(segment: &[u8], behind: &[u8]) -> bool {
+    match segment {
+        [0x0A] | [0xC2, 0x85] | [0xE2, 0x80, 0xA8] | [0xE2, 0x80, 0xA9] => true,
+        [0x0D] => behind.first() != Some(&0x0A),
+        _ => false,
+    }
+}
+
 /// The place behind the segment that stands first in the rest of a text, and the rest from there.
 pub fn step(p: Place, rest: &[u8]) -> (Place, &[u8]) {
     let s = u8::segment(rest);
+    let (first, behind) = rest.split_at(s.length);
     let units = 1 + s.point.is_some_and(|c| c >= 0x10000) as usize;
-    let lines = (rest[0] == 0x0A) as usize;
+    let lines = ends_line(first, behind) as usize;
     let next = [p[0] + s.length, p[1] + units, p[2] + 1, p[3] + lines];
-    (next, &rest[s.length..])
+    (next, behind)
 }
 
 /// The places of a text from a place on, the place itself included.
@@ -46,6 +57,15 @@ pub fn granted(p: Place) -> Told {
     let mut told = vec![0];
     told.extend(p);
     told
+}
+
+/// What a lookup tells, where all places of the text are given: of the first that counts the offset or more.
+pub fn among(found: &[Place], measure: usize, offset: usize) -> Told {
+    match found.iter().find(|p| p[measure] >= offset) {
+        None => vec![4],
+        Some(p) if p[measure] > offset => vec![5],
+        Some(&p) => granted(p),
+    }
 }
 
 /// Plain lookup.
