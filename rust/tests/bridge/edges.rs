@@ -34,7 +34,15 @@ fn exact(random: &mut Random, alphabet: usize, length: usize) -> Vec<u8> {
 /// What damages where it stands: bytes that begin nothing, and beginnings alone.
 const DAMAGE: [&[u8]; 4] = [b"\x80", b"\xFF", b"\xE2", b"\xF0\x9F"];
 /// What is whole in a stretch of another kind; it damages the characters that it cuts into.
-const WHOLE: [&[u8]; 2] = [b"\n", b"\xF0\x9F\x9A\x86"];
+const WHOLE: [&[u8]; 7] = [
+    b"\n",
+    b"\xF0\x9F\x9A\x86",
+    b"\r",
+    b"\r\n",
+    b"\xC2\x85",
+    b"\xE2\x80\xA8",
+    b"\xE2\x80\xA9",
+];
 
 fn bytes(run: &mut Run, text: &[u8], turn: usize) {
     conversions::of_bytes(run, text);
@@ -64,7 +72,7 @@ fn bytes(run: &mut Run, text: &[u8], turn: usize) {
 fn damaged(run: &mut Run, clean: &[u8], places: &[usize]) {
     for (turn, &at) in places.iter().enumerate() {
         let kind = turn + clean.len();
-        for put in [DAMAGE[kind % 4], WHOLE[kind % 2]] {
+        for put in [DAMAGE[kind % 4], WHOLE[kind % WHOLE.len()]] {
             if at + put.len() > clean.len() {
                 continue;
             }

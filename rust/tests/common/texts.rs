@@ -1,8 +1,9 @@
-//! Texts to try: mixed alphabets with markup and newlines, damage of every sort, and all short texts of some elements.
+//! Texts to try: mixed alphabets with markup and line ends, damage of every sort, and all short texts of some elements.
 use super::{Random, INTERESTING};
 
-/// Damages that a line or a wrong encoder makes: later bytes alone, overlong forms, surrogates, past the last, cut short.
-const DAMAGES: [&[u8]; 14] = [
+/// Damages that a line or a wrong encoder makes: later bytes alone, overlong forms, surrogates, past the last, cut short; the last ones are
+/// what is left of line ends.
+const DAMAGES: [&[u8]; 18] = [
     b"\x80",
     b"\xBF\xBF",
     b"\xC0\x80",
@@ -17,7 +18,16 @@ const DAMAGES: [&[u8]; 14] = [
     b"\xF0\x9F\x9A",
     b"\xF1",
     b"\xC3",
+    b"\xC2",
+    b"\r\x85",
+    b"\xE2\x80",
+    b"\x80\xA8",
 ];
+
+/// Line ends as senders write them; and 0A before 0D, which are two.
+pub const LINE_ENDS: [&str; 7] = ["\n", "\r", "\r\n", "\n\r", "\u{85}", "\u{2028}", "\u{2029}"];
+/// The bytes of all line ends, and a letter.
+pub const LINE_BYTES: [u8; 9] = [0x0A, 0x0D, 0x41, 0xC2, 0x85, 0xE2, 0x80, 0xA8, 0xA9];
 
 /// Units at which something changes.
 pub const UNITS: [u16; 14] = [
@@ -51,10 +61,10 @@ impl Random {
         from[self.below(from.len())]
     }
 
-    /// A character of an alphabet: ASCII with newlines, Latin, Cyrillic, CJK, emoji, or any.
+    /// A character of an alphabet: ASCII with 0A and 0D, Latin, Cyrillic, CJK, emoji, or any.
     pub fn character(&mut self, alphabet: usize) -> char {
         let c = match alphabet {
-            0 if self.below(24) == 0 => 0x0A,
+            0 if self.below(24) == 0 => self.pick(&[0x0A, 0x0D]),
             0 => 0x20 + self.below(0x5F) as u32,
             1 => 0xC0 + self.below(0x140) as u32,
             2 => 0x400 + self.below(0x100) as u32,
@@ -65,24 +75,30 @@ impl Random {
         char::from_u32(c).unwrap_or('\u{FEFF}')
     }
 
-    /// A run of characters of one alphabet, or of any bytes.
+    /// A run of characters of one alphabet, of any bytes, or of line ends and their bytes.
     fn run(&mut self, text: &mut Vec<u8>) {
-        let alphabet = self.below(8);
+        let alphabet = self.below(10);
         for _ in 0..1 + self.below(12) {
             match alphabet {
                 6 => text.push(self.next() as u8),
                 7 => text.push(self.pick(&INTERESTING)),
+                8 => text.extend(self.pick(&LINE_ENDS).bytes()),
+                9 => text.push(self.pick(&LINE_BYTES)),
                 a => text.extend(self.character(a).to_string().bytes()),
             }
         }
     }
 
-    /// Well-formed text of about so many bytes, of one alphabet or of all.
+    /// Well-formed text of about so many bytes, of one alphabet or of all, at times with line ends of every sort.
     pub fn clean(&mut self, length: usize) -> Vec<u8> {
         let (mut text, one) = (String::new(), self.below(8));
+        let has_lines = self.below(3) == 0;
         while text.len() < length {
             let alphabet = if one > 5 { self.below(6) } else { one };
             text.push(self.character(alphabet));
+            if has_lines && self.below(16) == 0 {
+                text.push_str(self.pick(&LINE_ENDS));
+            }
         }
         text.into_bytes()
     }
