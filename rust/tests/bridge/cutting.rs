@@ -2,6 +2,7 @@
 use crate::calls::*;
 use crate::common::model::places::cut;
 use crate::common::model::LIMIT;
+use crate::common::texts::{every_short, LINE_BYTES};
 use crate::Run;
 
 fn compare(run: &mut Run, text: &[u8], most: usize) {
@@ -35,6 +36,9 @@ fn over_the_limit(run: &mut Run) {
 }
 
 pub fn all(run: &mut Run) {
+    for text in every_short(&LINE_BYTES, 4) {
+        (0..=text.len() + 1).for_each(|most| compare(run, &text, most));
+    }
     for _ in 0..run.rounds(300) {
         let length = run.random.below(120);
         let text = run.random.mixture(length);

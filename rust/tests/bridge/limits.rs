@@ -209,7 +209,45 @@ fn builder(run: &mut Run, text: &[u8]) -> Vec<u32> {
     inner(&mut row).to_vec()
 }
 
+/// A text at the limit that is 0D throughout: a line for each byte. The last one is pending until the end, and the last checkpoint waits for it.
+fn of_returns(run: &mut Run) {
+    let (text, fresh, long) = (vec![0x0D; LIMIT], Builder::fresh(), need(LIMIT));
+    let built: Vec<u32> = (0..=LIMIT as u32 / 256)
+        .flat_map(|k| [256 * k; 4])
+        .collect();
+    let mut row = filled::<u32>(long);
+    let mut expected = row.clone();
+    inner(&mut expected)[..long - 4].copy_from_slice(&built[..long - 4]);
+    let pending = Builder {
+        held: [0x0D, 0, 0],
+        pending: 1,
+        taken: LIMIT,
+        units: LIMIT - 1,
+        points: LIMIT - 1,
+        lines: LIMIT - 1,
+    };
+    let fed = build_feed(fresh, &text, inner(&mut row));
+    assert_eq!(fed, (vec![0], pending));
+    let over = build_feed(pending, b"\n", inner(&mut row));
+    assert_eq!(over, (vec![2], pending));
+    let short = build_finish(pending, &mut inner(&mut row)[..long - 1]);
+    assert_eq!(short, (vec![3, long], pending));
+    assert!(row == expected, "the last checkpoint is not settled");
+    let ended = build_finish(pending, inner(&mut row));
+    assert_eq!(ended, (vec![0], fresh));
+    assert!(inner(&mut row) == built && audit(&text, &built) == 1);
+    for (offset, told) in [
+        (LIMIT, vec![0, LIMIT, LIMIT, LIMIT, LIMIT]),
+        (LIMIT + 1, vec![4]),
+    ] {
+        assert_eq!(looks(PLAIN[LINES], &text, offset, 8), told);
+        assert_eq!(finds(INDEXED[LINES], &text, &built, offset, 8), told);
+    }
+    run.cases += 9;
+}
+
 pub fn lookups(run: &mut Run) {
+    of_returns(run);
     let text = vec![b'A'; LIMIT + 1];
     let row = builder(run, &text);
     let whole = &text[..LIMIT];

@@ -5,6 +5,7 @@ use crate::common::model::forms::Form;
 use crate::common::model::index::{need, Builder};
 use crate::common::model::pending::{elements, hold, Piece};
 use crate::common::model::{ENTRY, LIMIT, ROOM};
+use crate::common::texts::every_short;
 use crate::common::INTERESTING;
 use crate::courses::{Tested, Tried};
 use crate::pieces::try_build;
@@ -21,7 +22,7 @@ fn off(run: &mut Run, numbers: &mut [usize]) {
         3 => r.below(256),
         4 => r.pick(&[4_096, 4_097, LIMIT - 1, LIMIT, LIMIT + 1]),
         5 => usize::MAX - r.below(3),
-        6 => r.pick(&[0xC3, 0xE2, 0x82, 0xF0, 0x9F, 0x9A, 0x80, 0xED, 0xA0]),
+        6 => r.pick(&[0x0D, 0xC3, 0xE2, 0x82, 0xF0, 0x9F, 0x9A, 0x80, 0xED, 0xA0]),
         7 => r.pick(&[
             0xD7FF, 0xD800, 0xDBFF, 0xDC00, 0xDFFF, 0xFFFF, 0x10000, 0x1D83D,
         ]),
@@ -204,10 +205,12 @@ fn watched(run: &mut Run, state: Decoder) {
     run.cases += 1;
 }
 
-/// Nothing, beginnings of sequences of each length, and what is none: whole, damage, or behind an unused place.
-const HELD_BYTES: [[usize; 3]; 9] = [
+/// Nothing, beginnings of sequences of each length, and what is none: whole, 0D, damage, or behind an unused place.
+const HELD_BYTES: [[usize; 3]; 11] = [
     [0, 0, 0],
     [0x41, 0, 0],
+    [0x0D, 0, 0],
+    [0x0D, 0x0A, 0],
     [0x80, 0, 0],
     [0xC3, 0, 0],
     [0xE2, 0x82, 0],
@@ -230,9 +233,38 @@ const HELD_UNITS: [[usize; 1]; 9] = [
     [0xFFFF],
 ];
 
+/// Every three interesting bytes in the held places, with each number of them pending, and one more.
+fn every_held() -> impl Iterator<Item = ([usize; 3], usize)> {
+    let bytes = every_short(&INTERESTING, 3).filter(|bytes| bytes.len() == 3);
+    bytes.flat_map(|bytes| (0..=4).map(move |pending| (hold(&bytes), pending)))
+}
+
+/// States of all these, where every other test holds.
+fn compare_held<U: Form>(run: &mut Run, decoding: Decoding<u8, U>, also: fn(&mut Run, Decoder)) {
+    let lent = Lent {
+        piece: b"\n\xE2".to_vec(),
+        out: 12,
+        list: ENTRY,
+    };
+    for (held, pending) in every_held() {
+        let state = State {
+            held,
+            pending,
+            taken: 6 + pending,
+            whole: 4,
+            damaged: 2,
+            count: 1,
+            room: 1,
+        };
+        compare_lent(run, decoding, state, &lent);
+        also(run, state);
+    }
+}
+
 pub fn decoders(run: &mut Run) {
     compare_decoders(run, PIECES, 40_000, watched);
     compare_each(run, PIECES, &HELD_BYTES, b"\x9A\xE2");
+    compare_held(run, PIECES, watched);
 }
 
 pub fn unit_decoders(run: &mut Run) {
@@ -243,12 +275,16 @@ pub fn unit_decoders(run: &mut Run) {
 pub fn decoders_to_units(run: &mut Run) {
     compare_decoders(run, PIECES_TO_UNITS, 10_000, |_, _| ());
     compare_each(run, PIECES_TO_UNITS, &HELD_BYTES, b"\x9A\xE2");
+    compare_held(run, PIECES_TO_UNITS, |_, _| ());
 }
 
-/// As with decoders.
+/// As with decoders; now and then 0D is the last that was taken.
 fn builder(run: &mut Run) -> Builder {
     let length = run.random.below(300);
-    let text = run.random.mixture(length);
+    let mut text = run.random.mixture(length);
+    if run.random.below(8) == 0 {
+        text.push(0x0D);
+    }
     let mut numbers = Builder::fresh().feed(&text, usize::MAX).state.numbers();
     match run.random.below(8) {
         0 => numbers[5..8]
@@ -266,7 +302,10 @@ fn builder(run: &mut Run) -> Builder {
 
 fn compare_builder(run: &mut Run, state: Builder) {
     let length = run.random.below(12);
-    let piece = run.random.mixture(length);
+    let mut piece = run.random.mixture(length);
+    if run.random.below(8) == 0 {
+        piece.insert(0, 0x0A);
+    }
     let wanted = need(state.taken.min(3_000) + piece.len());
     let lent = match run.random.below(4) {
         0 => run.random.below(wanted),
@@ -286,7 +325,48 @@ fn compare_builder(run: &mut Run, state: Builder) {
     run.cases += 2;
 }
 
+/// Builders that hold every three interesting bytes, where every other test holds: pending 0D is granted alone, and refused with another byte.
+fn compare_held_builders(run: &mut Run) {
+    let mut row = filled::<u32>(5);
+    for (held, pending) in every_held() {
+        let state = Builder {
+            held,
+            pending,
+            taken: 5 + pending,
+            units: 4,
+            points: 3,
+            lines: 2,
+        };
+        for piece in [Some(b"\n".as_slice()), Some(b"\x80\r"), Some(b""), None] {
+            try_build(state, piece, &mut row, 4, || {
+                format!("{state:?}, {piece:02X?}")
+            });
+            run.cases += 1;
+        }
+    }
+}
+
+/// Builders that hold bytes of each sort, where nothing else is taken, or some, or all that may be; then each with one number one less or more.
+fn compare_near_builders(run: &mut Run) {
+    let held = HELD_BYTES.into_iter();
+    for ([a, b, c], n) in held.flat_map(|held| (0..=4).map(move |n| (held, n))) {
+        for [taken, units, points, lines] in [[n, 0, 0, 0], [9, 5, 5, 5], [LIMIT, 3, 2, 1]] {
+            let numbers = [a, b, c, n, taken, units, points, lines];
+            compare_builder(run, Builder::of(&numbers));
+            for i in 0..numbers.len() {
+                for off in [numbers[i].wrapping_sub(1), numbers[i].wrapping_add(1)] {
+                    let mut numbers = numbers;
+                    numbers[i] = off;
+                    compare_builder(run, Builder::of(&numbers));
+                }
+            }
+        }
+    }
+}
+
 pub fn builders(run: &mut Run) {
+    compare_held_builders(run);
+    compare_near_builders(run);
     for _ in 0..run.rounds(40_000) {
         let state = builder(run);
         compare_builder(run, state);
