@@ -16,7 +16,8 @@ fn indexed(run: &mut Run, text: &[u8], row: &[u32], measure: usize, offset: usiz
     run.cases += 1;
 }
 
-fn plainly(run: &mut Run, text: &[u8], measure: usize, offset: usize) {
+/// A plain lookup.
+pub fn plainly(run: &mut Run, text: &[u8], measure: usize, offset: usize) {
     assert_eq!(
         looks(PLAIN[measure], text, offset, 8),
         plain(text, measure, offset),
@@ -32,7 +33,7 @@ fn audits(run: &mut Run, text: &[u8], row: &[u32]) {
 }
 
 /// Every offset in every measure, some past the end, plain and in the text's own index; over a true index both agree.
-fn every(run: &mut Run, text: &[u8]) {
+pub fn every(run: &mut Run, text: &[u8]) {
     let row = built(text);
     let offsets = (0..=text.len() + 2).chain([LIMIT, LIMIT + 1, usize::MAX]);
     for offset in offsets {

@@ -12,6 +12,7 @@ mod cutting;
 mod cuttings;
 mod edges;
 mod limits;
+mod lines;
 mod lookups;
 mod pending;
 mod phrases;
@@ -45,7 +46,10 @@ const USUAL: usize = 1_000_000;
 type Subject = (&'static str, fn(&mut Run));
 
 /// The subjects, the longest first, so that the last to end are short.
-const SUBJECTS: [Subject; 34] = [
+const SUBJECTS: [Subject; 41] = [
+    ("lines of short texts, looked up", lines::looked_up),
+    ("lines near multiples of 256", lines::near_multiples),
+    ("lines of short texts, in two pieces", lines::built_in_two),
     (
         "phrases over two and three letters",
         phrases::of_few_letters,
@@ -56,6 +60,10 @@ const SUBJECTS: [Subject; 34] = [
     ("limits of phrases", limits::phrases),
     ("phrases in damaged entries", phrases::in_damaged_entries),
     ("limits of pieces", limits::pieces),
+    ("lines of up to four bytes", lines::of_four),
+    ("lines in blocks", lines::in_blocks),
+    ("lines in runs", lines::in_runs),
+    ("lines by all scalar values", lines::of_all_values),
     ("lookups in falsified indexes", lookups::falsified),
     ("lookups at every offset", lookups::every_offset),
     ("lookups in long texts", lookups::long_texts),
