@@ -201,9 +201,10 @@ pub fn bytes_std(text: &[u8], shelf: &mut Shelf, meter: &mut dyn Meter) -> Pair 
 
 pub fn build_loop(text: &[u8], shelf: &mut Shelf, meter: &mut dyn Meter) -> Pair {
     let row = shelf.take(calls::index_size(text.len()));
-    let [units, _, _] = peers::count(text);
+    let [units, points, lines] = peers::count(text);
+    let end = [0, text.len(), units, points, lines];
     assert_eq!(calls::build(text, row)[0], 0);
-    assert_eq!(calls::index_unit(text, row, units)[..2], [0, text.len()]);
+    assert_eq!(calls::index_unit(text, row, units)[..5], end);
     meter.pair(
         &mut || keep(calls::build(black_box(text), row)),
         &mut || keep(peers::count(black_box(text))),

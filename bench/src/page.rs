@@ -33,9 +33,10 @@ whole form. No other peer allocates in the timed part. Ours allocates nothing.
 without its SIMD feature and reads words. std's check reads words. \
 Ours is compiled for plain x86-64 (SSE2).
 - bytecount counts code points alone, while the builder counts three measures and writes checkpoints. The plain loop is Rust's \
-`utf8_chunks` and `chars`, counting units, code points and lines.
+`utf8_chunks` and `chars`, counting units, code points and lines, which end after 0A, after 0D unless 0A follows, and after U+0085, U+2028 \
+and U+2029.
 - The loop by ranges has the reader that the library had before its table of classes, which tests the range of each byte, written once more \
-in Rust: a loop for units alone, while ours serves the four measures by one walk.
+in Rust: a loop for units alone, while ours serves the four measures by one walk. It counts the same lines.
 - Ours and std's check stop at the first damage, so a damaged text is cut behind it for them. simdutf8 (basic) reads on to the end, \
 and is compared on clean texts alone.
 - A ratio that is to be reached stands for texts of 64 bytes and more; that of the check against std from 24 bytes on; that of an \

@@ -87,14 +87,23 @@ pub fn std_to_bytes(text: &[u16], out: &mut [u8]) -> usize {
     n
 }
 
-/// A plain loop over characters and damages: units, code points and lines of the whole text.
+/// A plain loop over characters and damages: units, code points and lines of the whole text. A line ends after 0A, after 0D unless 0A follows,
+/// and after U+0085, U+2028 and U+2029; behind a valid stretch there is damage or nothing, so that no 0A follows its last 0D.
 pub fn count(text: &[u8]) -> [usize; 3] {
     let [mut units, mut points, mut lines] = [0; 3];
     for chunk in text.utf8_chunks() {
-        for c in chunk.valid().chars() {
+        let mut chars = chunk.valid().chars();
+        while let Some(c) = chars.next() {
             units += c.len_utf16();
             points += 1;
-            lines += (c == '\n') as usize;
+            let ends_line = match c {
+                '\n' | '\u{85}' | '\u{2028}' | '\u{2029}' => true,
+                '\r' => !chars.as_str().starts_with('\n'),
+                _ => false,
+            };
+            if ends_line {
+                lines += 1;
+            }
         }
         if !chunk.invalid().is_empty() {
             units += 1;

@@ -1,4 +1,5 @@
-//! The reader that the library had before it read by a table of classes: it tests ranges, byte by byte. Kept here to be compared with.
+//! The reader that the library had before it read by a table of classes: it tests ranges, byte by byte. Kept here to be compared with; it
+//! counts the lines that the library counts now.
 
 /// How many bytes a first byte wants behind it, and the range of the next; nothing where it begins no sequence.
 fn lead(b: u8) -> Option<(usize, u8, u8)> {
@@ -32,6 +33,15 @@ fn size(text: &[u8]) -> usize {
     n
 }
 
+/// Does a line end after the first segment of a text? C2 85, E2 80 A8 and E2 80 A9 are whole segments wherever one begins with them.
+fn ends_line(text: &[u8]) -> bool {
+    match text {
+        [b'\r', b'\n', ..] => false,
+        [b'\n' | b'\r', ..] | [0xC2, 0x85, ..] | [0xE2, 0x80, 0xA8 | 0xA9, ..] => true,
+        _ => false,
+    }
+}
+
 /// The place that counts so many units: bytes, units, code points and lines before it, if it is a boundary.
 pub fn place_of_unit(text: &[u8], offset: usize) -> Option<[usize; 4]> {
     let mut place = [0; 4];
@@ -41,7 +51,9 @@ pub fn place_of_unit(text: &[u8], offset: usize) -> Option<[usize; 4]> {
         place[0] += n;
         place[1] += if n == 4 { 2 } else { 1 };
         place[2] += 1;
-        place[3] += (rest[0] == b'\n') as usize;
+        if ends_line(rest) {
+            place[3] += 1;
+        }
     }
     (place[1] == offset).then_some(place)
 }
