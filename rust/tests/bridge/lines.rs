@@ -264,20 +264,26 @@ const PUTS: [&[u8]; 26] = [
     b"\xE3\x80\xA9",
 ];
 
-/// Each put at every place of two blocks, among letters of one, two and three bytes: in one piece, and cut somewhere in it.
+/// Letters of each length.
+const ALPHABET: [&[u8]; 4] = [b"A", b"\xC3\xA9", b"\xE4\xB8\x80", b"\xF0\x9F\x9A\x86"];
+
+/// Each put at every place of two blocks among letters: in one piece, and cut before, in and behind it.
 pub fn in_blocks(run: &mut Run) {
-    for (i, put) in PUTS.into_iter().enumerate() {
-        for letter in [b"A".as_slice(), b"\xC3\xA9", b"\xE4\xB8\x80"] {
-            for at in 0..=262 {
-                let text = [&fill(letter, at), put, &fill(letter, 135)].concat();
-                let (text, n, room) = (&text[..], text.len(), 0);
-                let cut = at + (at + i) % (put.len() + 1);
-                for cuts in [&[n][..], &[cut, n]] {
-                    build_course(run, &Course { text, cuts, room });
-                }
-                if at % 128 >= 124 {
-                    in_sizes(run, text);
-                }
+    for (put, letter) in PUTS
+        .iter()
+        .flat_map(|put| ALPHABET.map(|letter| (put, letter)))
+    {
+        for at in 0..=262 {
+            let text = [&fill(letter, at), *put, &fill(letter, 135)].concat();
+            let (text, n, room) = (&text[..], text.len(), 0);
+            for cut in at..=at + put.len() {
+                let cuts = &[cut, n];
+                build_course(run, &Course { text, cuts, room });
+            }
+            let cuts = &[n];
+            build_course(run, &Course { text, cuts, room });
+            if at % 128 >= 124 {
+                in_sizes(run, text);
             }
         }
     }
