@@ -1,6 +1,6 @@
 //! What is to be reached: ratios of times by job, peer and text, the growth of the search, and instructions of repair in pieces.
 use crate::inputs::*;
-use crate::jobs::{Row, CHECK, STREAMING};
+use crate::jobs::{Row, BUILD, CHECK, STREAMING};
 use crate::phrases::ABSENT;
 
 /// The shortest text that counts as one of 64 bytes: one that was cut at a character.
@@ -51,8 +51,9 @@ fn of_kind(row: &Row) -> Option<f64> {
         ("repair", "std lossy", CJK) => 2.5,
         ("repair", "std lossy", DAMAGED) => 1.3,
         (name, "encoding_rs", ASCII | CYRILLIC) if name.ends_with("repairing") => 1.0,
-        ("index build", "plain loop", RANDOM) => 1.0,
-        ("index build", "plain loop", kind) if CLEAN.contains(&kind) => 5.0,
+        (BUILD, "plain loop", RANDOM) => 1.0,
+        (BUILD, "plain loop", kind) if CLEAN.contains(&kind) => 5.0,
+        (BUILD, "plain loop", RETURNS | QUOTES) => 5.0,
         _ => return None,
     };
     Some(least)

@@ -25,10 +25,14 @@ pub const MARKUP: &str = "a mix with markup";
 pub const DAMAGED: &str = "damage every 100 bytes";
 pub const BURSTS: &str = "bursts of dropped bytes";
 pub const RANDOM: &str = "random bytes";
+pub const RETURNS: &str = "log lines with 0D 0A";
+pub const QUOTES: &str = "Latin with quotation marks";
 
 /// The clean kinds, then those with damage.
 pub const CLEAN: [&str; 6] = [ASCII, LATIN, CYRILLIC, CJK, EMOJI, MARKUP];
 pub const BROKEN: [&str; 3] = [DAMAGED, BURSTS, RANDOM];
+/// Clean ones for what counts lines: line ends of two bytes, and letters that share their first bytes with line ends.
+pub const LINED: [&str; 2] = [RETURNS, QUOTES];
 
 fn letter(kind: &str, r: &mut Random) -> char {
     let (first, count) = match kind {
@@ -77,10 +81,21 @@ fn markup(length: usize, r: &mut Random) -> String {
     text
 }
 
+/// Words in quotation marks, U+201C and U+201D.
+fn quoted(length: usize, r: &mut Random) -> String {
+    let mut text = String::new();
+    while text.len() < length {
+        text += &format!("\u{201C}{}\u{201D} ", prose(LATIN, 24, r).trim());
+    }
+    text
+}
+
 /// A clean text of at most so many bytes, cut at a character.
 fn clean(kind: &str, length: usize, r: &mut Random) -> Vec<u8> {
     let mut text = match kind {
         ASCII => log(length, r),
+        RETURNS => log(length, r).replace('\n', "\r\n"),
+        QUOTES => quoted(length, r),
         MARKUP => markup(length, r),
         _ => prose(kind, length, r),
     };

@@ -1,5 +1,5 @@
 //! The jobs: what of ours is measured beside which peer, on which texts. One list serves times and instructions.
-use crate::inputs::{self, BROKEN, CLEAN};
+use crate::inputs::{self, BROKEN, CLEAN, LINED};
 use crate::meter::{Meter, Pair};
 use crate::phrases::{Foreign, Last, Long, Phrase, Rare, Short, Usual};
 use crate::shelf::{self, Shelf};
@@ -134,6 +134,7 @@ const fn find_memmem<P: Phrase>() -> Job {
 }
 
 pub const CHECK: &str = "strict check";
+pub const BUILD: &str = "index build";
 pub const STREAMING: &str = "encoding_rs, streaming";
 /// How much of a text is fed byte by byte.
 pub const BYTE_BY_BYTE: usize = 4_096;
@@ -178,9 +179,9 @@ pub const JOBS: [Job; 40] = [
     from_units::<65_536>(),
     from_units::<1_000>(),
     from_units::<64>(),
-    job("index build", "plain loop", cases::build_loop),
+    job(BUILD, "plain loop", cases::build_loop),
     strict(job(
-        "index build",
+        BUILD,
         "bytecount (code points)",
         cases::build_bytecount,
     )),
@@ -241,7 +242,9 @@ impl Job {
     /// The kinds of text that it is measured on.
     pub fn kinds(self) -> impl Iterator<Item = &'static str> {
         let broken = if self.strict { 0 } else { BROKEN.len() };
-        CLEAN.into_iter().chain(BROKEN.into_iter().take(broken))
+        let lined = if self.name == BUILD { LINED.len() } else { 0 };
+        let clean = CLEAN.into_iter().chain(LINED.into_iter().take(lined));
+        clean.chain(BROKEN.into_iter().take(broken))
     }
 
     pub fn row(self, kind: &'static str, length: usize, meter: &mut dyn Meter) -> Row {

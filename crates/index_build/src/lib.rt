@@ -1,23 +1,20 @@
 // The builder of an index from a byte text that comes in pieces.
 use place::Place;
-use terms::First;
 ghost use mathlib.Core.Path.{_≡_};
-ghost use mathlib.Core.List.{[]};
 ghost use Prim.Native.Nat.{_+_, _≤_};
 ghost use lib.ListN.{length};
 ghost use Rattle.theory.specs.Index.{startMarked};
 ghost use Rattle.utf8.specs.Bytes.{bytes};
 ghost use Rattle.utf8.specs.Classes.{byClasses};
-ghost use Rattle.place.specs.Lines.{waitsBehind};
 ghost use Rattle.place.specs.Measures.{ruler};
 ghost use Rattle.place.specs.Lookup.{fourCounts};
 ghost use Rattle.index_checkpoint.specs.Checkpoints.{spacing, width};
 ghost use Rattle.index_build.specs.Building.{ended, Feeds, Finishes};
 ghost use Rattle.index_build.specs.Inside.Steps.{Ahead, Advances, keeping, Walks, Seams, Closes, Granted, streamOf, joined, grown};
-ghost use Rattle.index_build.specs.Inside.Steps.{Stretches, Stretched, settledBy, isLeft};
-ghost use Rattle.index_build.specs.Inside.Runs.{Settled};
+ghost use Rattle.index_build.specs.Inside.Steps.{Stretches, Stretched};
 
 mod run;
+mod settled;
 mod state;
 
 pub use state::Builder;
@@ -62,50 +59,6 @@ fn keep(left: &[u8], p: Place, taken: usize) -> Builder
     }
 }
 
-// Is this text a lone 0D, which may be the beginning of 0D 0A?
-fn is_return(text: &[u8]) -> bool
-    ensures { λ r. ⌜ r ≡ waitsBehind (now (text .entry)) [] ⌝ }
-{
-    if text.len() != 1 {
-        return false;
-    }
-    text[0] == 0x0D
-}
-
-// Is nothing of this text settled, as it is empty or a lone 0D?
-fn is_left(text: &[u8]) -> bool
-    ensures { λ r. ⌜ r ≡ isLeft (now (text .entry)) ⌝ }
-{
-    if text.len() == 0 {
-        return true;
-    }
-    is_return(text)
-}
-
-// How many bytes of a text are settled by the segment that is told to stand first in it.
-fn settled_by(text: &[u8], seg: First) -> usize
-    ensures { λ r. ⌜ r ≡ settledBy (now (text .entry)) seg ⌝ }
-{
-    if is_return(text) {
-        return 0;
-    }
-    utf8_pending::settled_size(seg)
-}
-
-// How many bytes of a text are whole segments and settled: all before the first damage, but for a 0D that ends the text.
-fn settled_run(text: &[u8]) -> usize
-    ensures { λ r. ⌜ Settled (now (text .entry)) r ⌝ }
-{
-    let run = utf8_check::whole_run(text);
-    if run == 0 {
-        return run;
-    }
-    if is_return(&text[run - 1..]) {
-        return run - 1;
-    }
-    run
-}
-
 // At most so many settled segments are walked over, one by one.
 fn stretch(text: &[u8], from: Place, most: usize, row: &mut [u32], classes: &[u8; 256]) -> Place
     requires { ⌜ Stretches from (now text) most (now row) ⌝ }
@@ -116,7 +69,7 @@ fn stretch(text: &[u8], from: Place, most: usize, row: &mut [u32], classes: &[u8
     let mut at: usize = 0;
     let mut left = most;
     while 0 < left {
-        let size = settled_by(&text[at..], utf8::segment_by(&text[at..], classes));
+        let size = crate::settled::settled_by(&text[at..], utf8::segment_by(&text[at..], classes));
         if size == 0 {
             return p;
         }
@@ -143,7 +96,7 @@ fn walk_by(text: &[u8], from: Place, taken: usize, row: &mut [u32], classes: &[u
             return keep(&text[at..], q, taken);
         }
         let start = q.bytes - from.bytes;
-        let run = settled_run(&text[start..]);
+        let run = crate::settled::settled_run(&text[start..]);
         p = crate::run::pass_run(&text[start..], run, q, row);
         at = start + run;
         wait = utf8_check::wait_behind(wait, run);
@@ -163,9 +116,9 @@ fn walk(text: &[u8], from: Place, taken: usize, row: &mut [u32]) -> Builder
     requires { ⌜ Walks from (now text) (now row) ⌝ }
     ensures { λ r. ⌜ Closes taken (streamOf from (now (row .entry)) (now (text .entry))) (now (row .exit)) r ⌝ }
 {
-    let run = settled_run(text);
+    let run = crate::settled::settled_run(text);
     let p = crate::run::pass_run(text, run, from, row);
-    if is_left(&text[run..]) {
+    if crate::settled::is_left(&text[run..]) {
         return keep(&text[run..], p, taken);
     }
     walk_on(&text[run..], p, taken, row)
@@ -182,7 +135,7 @@ fn join(seam: &[u8], state: Builder, piece: &[u8], row: &mut [u32]) -> Builder
     if state.pending == 0 {
         return walk(piece, p, taken, row);
     }
-    let size = settled_by(seam, utf8::segment(seam));
+    let size = crate::settled::settled_by(seam, utf8::segment(seam));
     if size == 0 {
         return keep(seam, p, taken);
     }

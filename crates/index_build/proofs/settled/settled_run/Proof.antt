@@ -1,4 +1,4 @@
--- `settled_run` meets its contract: the run ends before the first damage, and one byte earlier where it ends the text with a 0D.
+-- `settled::settled_run` meets its contract: the run ends before the first damage, and one byte earlier where it ends the text with a 0D.
 use Prim.Native.Nat.{_-_}
 use mathlib.Core.Path.{_≡_, sym, _∙_}
 use mathlib.Core.List.{[]}
@@ -10,8 +10,8 @@ use Rattle.utf8_check.proofs.RunDivides.{Run}
 use Rattle.utf8_check.proofs.StandingIsWhole.{run-at}
 use Rattle.place.specs.Lines.{waitsBehind}
 use Rattle.index_build.proofs.SettledRun.{settled-none, settled-all, settled-others}
-use Rattle.index_build.proofs.settled_run.Statement.{statement}
-use Rattle.index_build.proofs.settled_run.Tie as tie
+use Rattle.index_build.proofs.settled.settled_run.Statement.{statement}
+use Rattle.index_build.proofs.settled.settled_run.Tie as tie
 
 whole-run-requires : tie.Need-whole-run-requires
 whole-run-requires c κs = search needs

@@ -1,8 +1,8 @@
--- `settled_by` meets its contract: a lone 0D is not settled, and of any other text as much as the reader told.
+-- `settled::settled_by` meets its contract: a lone 0D is not settled, and of any other text as much as the reader told.
 use mathlib.Core.Path.{sym, _∙_}
 use borrow.Author.Needs.{needs}
-use Rattle.index_build.proofs.settled_by.Statement.{statement}
-use Rattle.index_build.proofs.settled_by.Tie as tie
+use Rattle.index_build.proofs.settled.settled_by.Statement.{statement}
+use Rattle.index_build.proofs.settled.settled_by.Tie as tie
 
 is-return-requires : tie.Need-is-return-requires
 is-return-requires c κs = search needs

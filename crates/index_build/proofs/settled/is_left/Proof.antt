@@ -1,9 +1,9 @@
--- `is_left` meets its contract: the text is empty, or it is asked whether it is a lone 0D.
+-- `settled::is_left` meets its contract: the text is empty, or it is asked whether it is a lone 0D.
 use borrow.Author.Needs.{needs}
 use mathlib.Core.Path.{sym, _∙_}
 use Rattle.index_build.proofs.LoneReturn.{left-empty, left-some}
-use Rattle.index_build.proofs.is_left.Statement.{statement}
-use Rattle.index_build.proofs.is_left.Tie as tie
+use Rattle.index_build.proofs.settled.is_left.Statement.{statement}
+use Rattle.index_build.proofs.settled.is_left.Tie as tie
 
 returns : tie.Need-returns
 returns c = sym (left-empty (c .before .before .args .text .now) (c .if1 .taken))

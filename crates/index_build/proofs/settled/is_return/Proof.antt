@@ -1,9 +1,9 @@
--- `is_return` meets its contract: only a text of one byte may be a lone 0D.
+-- `settled::is_return` meets its contract: only a text of one byte may be a lone 0D.
 use mathlib.Core.Path.{sym}
 use borrow.Author.Needs.{needs}
 use Rattle.index_build.proofs.LoneReturn.{waits-long, waits-head}
-use Rattle.index_build.proofs.is_return.Statement.{statement}
-use Rattle.index_build.proofs.is_return.Tie as tie
+use Rattle.index_build.proofs.settled.is_return.Statement.{statement}
+use Rattle.index_build.proofs.settled.is_return.Tie as tie
 
 returns : tie.Need-returns
 returns c = sym (waits-long (c .before .args .text .now) (c .if1 .taken))
