@@ -13,7 +13,7 @@ use Rattle.theory.specs.Tally.{total}
 use Rattle.theory.proofs.Cases.{split, both}
 use Rattle.utf8_scan.specs.Stands.{isLater}
 use Rattle.utf8_count.specs.Counts.{startOf, endOf, endFirst, endsIn}
-use Rattle.utf8_count.specs.Inside.Ends.{oddOf}
+use Rattle.utf8_count.specs.Inside.Ends.{shortEnd, longOf}
 use Rattle.utf8_count.proofs.SumsOfSegments.{Laters}
 
 -- ---- what begins with one byte
@@ -44,19 +44,21 @@ end-later x y z e =
     let h : x < 0xC0 = ltb-true x 0xC0 (b .1) in
     end-none x y z (omega arith) (omega arith) (omega arith) (omega arith)
 
--- and one of them without what follows
-pub end-even : (x y z : ℕ) → oddOf x ≡ 0 → endOf x y z ≡ cond (eqb x 0x0A) 1 0
+-- and two of them one that is longer than a byte
+pub end-short : (x y z : ℕ) → longOf x ≡ 0 → endOf x y z ≡ shortEnd x y
 unfolding endOf
-end-even x y z h =
-    split (eqb x 0x0D) (λ d. absurd (omega (arith, (rw d at h))))
-    (λ d. split (eqb x 0xC2) (λ c. absurd (omega (arith, (rw (d, c) at h))))
-    (λ c. split (eqb x 0xE2) (λ e. absurd (omega (arith, (rw (d, c, e) at h))))
-    (λ e. rw (d, c, e))))
+end-short x y z h =
+    split (eqb x 0xC2) (λ c. absurd (omega (arith, (rw c at h))))
+    (λ c. split (eqb x 0xE2) (λ e. absurd (omega (arith, (rw (c, e) at h))))
+    (λ e. rw (c, e)))
 
-pub odd-few : (x : ℕ) → oddOf x ≤ 1
-odd-few x =
-    either-few (eqb x 0x0D) 1 _ (omega arith)
-    (either-few (eqb x 0xC2) 1 _ (omega arith) (either-few (eqb x 0xE2) 1 0 (omega arith) (omega arith)))
+pub short-few : (x y : ℕ) → shortEnd x y ≤ 1
+short-few x y =
+    either-few (eqb x 0x0A) 1 _ (omega arith)
+    (either-few (eqb x 0x0D) _ 0 (either-few (eqb y 0x0A) 0 1 (omega arith) (omega arith)) (omega arith))
+
+pub long-few : (x : ℕ) → longOf x ≤ 1
+long-few x = either-few (eqb x 0xC2) 1 _ (omega arith) (either-few (eqb x 0xE2) 1 0 (omega arith) (omega arith))
 
 pub end-nothing : endFirst [] ≡ 0
 unfolding endOf
@@ -122,27 +124,27 @@ ends-starts (suc n) (x ∷ xs) =
     (λ e. rw e (omega (arith, end-later x y z e, ends-starts n xs)))
     (λ e. rw e (omega (arith, end-few x y z, ends-starts n xs)))
 
--- ---- counted byte by byte, as long as none but 0A is there
+-- ---- counted byte by byte, as long as none is longer than a byte
 
-pub record Even (text : List ℕ) (n ends odd : ℕ) : Type 0 where
+pub record Short (text : List ℕ) (n ends long : ℕ) : Type 0 where
   pub ends-at-most : ends ≤ n
-  pub odd-at-most : odd ≤ n
-  pub ends-are : odd ≡ 0 → ends ≡ endsIn n text
+  pub long-at-most : long ≤ n
+  pub ends-are : long ≡ 0 → ends ≡ endsIn n text
 
-pub even-none : (text : List ℕ) → Even text 0 0 0
-even-none text = record { ends-at-most = omega arith; odd-at-most = omega arith; ends-are = λ z. refl }
+pub short-none : (text : List ℕ) → Short text 0 0 0
+short-none text = record { ends-at-most = omega arith; long-at-most = omega arith; ends-are = λ z. refl }
 
-pub even-next : (text : List ℕ) (n ends odd : ℕ) → Even text n ends odd
-    → let x = getD text n 0 in Even text (n + 1) (ends + cond (eqb x 0x0A) 1 0) (odd + oddOf x)
-even-next text n ends odd e =
+pub short-next : (text : List ℕ) (n ends long : ℕ) → Short text n ends long
+    → let x = getD text n 0 in Short text (n + 1) (ends + shortEnd x (getD (drop 1 text) n 0)) (long + longOf x)
+short-next text n ends long s =
     let x : ℕ = getD text n 0 in
+    let y : ℕ = getD (drop 1 text) n 0 in
+    let z : ℕ = getD (drop 2 text) n 0 in
     record {
-      ends-at-most = omega (arith, e .ends-at-most, either-few (eqb x 0x0A) 1 0 (omega arith) (omega arith));
-      odd-at-most = omega (arith, e .odd-at-most, odd-few x);
+      ends-at-most = omega (arith, s .ends-at-most, short-few x y);
+      long-at-most = omega (arith, s .long-at-most, long-few x);
       ends-are = λ none.
-          let a : ends ≡ endsIn n text = e .ends-are (omega arith) in
-          let y : ℕ = getD (drop 1 text) n 0 in
-          let z : ℕ = getD (drop 2 text) n 0 in
-          let b : endOf x y z ≡ cond (eqb x 0x0A) 1 0 = end-even x y z (omega arith) in
+          let a : ends ≡ endsIn n text = s .ends-are (omega arith) in
+          let b : endOf x y z ≡ shortEnd x y = end-short x y z (omega arith) in
           rw (ends-next n text, b, a);
     }

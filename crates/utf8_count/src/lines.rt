@@ -5,7 +5,7 @@ ghost use Prim.Native.Nat.{ℕ, _+_, _≤_, min};
 ghost use lib.Dec.{eqb};
 ghost use lib.ListN.{length, getD, drop};
 ghost use Rattle.utf8_count.specs.Counts.{endOf, endFirst, endsIn};
-ghost use Rattle.utf8_count.specs.Inside.Ends.{oddOf, ZeroFrom};
+ghost use Rattle.utf8_count.specs.Inside.Ends.{shortEnd, longOf, ZeroFrom};
 
 // y where x is a. Selects and no branches, so that a loop over it is wide.
 fn pick(x: u8, a: u8, y: u8, other: u8) -> u8
@@ -57,11 +57,18 @@ pub fn end_first(text: &[u8]) -> usize
     crate::wide(end_of(x, byte_at(text, 1), byte_at(text, 2)))
 }
 
-// One where the byte may end a line and is not 0A.
-fn odd_of(x: u8) -> u8
-    ensures { λ r. ⌜ r ≡ oddOf x ⌝ }
+// One where x by itself ends a line, as 0A does and a 0D with no 0A behind it.
+fn short_end(x: u8, y: u8) -> u8
+    ensures { λ r. ⌜ r ≡ shortEnd x y ⌝ }
 {
-    pick(x, 0x0D, 1, pick(x, 0xC2, 1, pick(x, 0xE2, 1, 0)))
+    pick(x, 0x0A, 1, pick(x, 0x0D, pick(y, 0x0A, 0, 1), 0))
+}
+
+// One where the byte may begin a line's end of more than one byte.
+fn long_of(x: u8) -> u8
+    ensures { λ r. ⌜ r ≡ longOf x ⌝ }
+{
+    pick(x, 0xC2, 1, pick(x, 0xE2, 1, 0))
 }
 
 // Those of the first 128 bytes, by looking at the two behind each: so that a loop is wide, they are lent by themselves.
@@ -76,21 +83,29 @@ fn every(text: &[u8], next: &[u8], third: &[u8]) -> usize
     crate::wide(ends)
 }
 
-// Those of the first 128 bytes, where two more stand behind them: most texts have only 0A, which is found by looking at one.
+// The same: most texts have only ends of one byte, for which one look behind each is enough.
+fn short_first(text: &[u8], next: &[u8], third: &[u8]) -> usize
+    requires { ⌜ (130 ≤ length (now text)) × (now next ≡ drop 1 (now text)) × (now third ≡ drop 2 (now text)) ⌝ }
+    ensures { λ r. ⌜ r ≡ endsIn 128 (now (text .entry)) ⌝ }
+{
+    let mut ends: u8 = 0;
+    let mut long: u8 = 0;
+    for k in 0..128 {
+        ends += short_end(text[k], next[k]);
+        long += long_of(text[k]);
+    }
+    if long == 0 {
+        return crate::wide(ends);
+    }
+    every(text, next, third)
+}
+
+// Those of the first 128 bytes, where two more stand behind them.
 fn block_ends(text: &[u8]) -> usize
     requires { ⌜ 130 ≤ length (now text) ⌝ }
     ensures { λ r. ⌜ r ≡ endsIn 128 (now (text .entry)) ⌝ }
 {
-    let mut ends: u8 = 0;
-    let mut odd: u8 = 0;
-    for k in 0..128 {
-        ends += pick(text[k], 0x0A, 1, 0);
-        odd += odd_of(text[k]);
-    }
-    if odd == 0 {
-        return crate::wide(ends);
-    }
-    every(text, &text[1..], &text[2..])
+    short_first(text, &text[1..], &text[2..])
 }
 
 // Byte by byte.

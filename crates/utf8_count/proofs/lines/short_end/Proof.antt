@@ -1,7 +1,7 @@
--- `odd_of` meets its contract: it is the definition, built of picks.
+-- `short_end` meets its contract: it is the definition, built of picks.
 use borrow.Author.Needs.{needs}
-use Rattle.utf8_count.proofs.lines.odd_of.Statement.{statement}
-use Rattle.utf8_count.proofs.lines.odd_of.Tie as tie
+use Rattle.utf8_count.proofs.lines.short_end.Statement.{statement}
+use Rattle.utf8_count.proofs.lines.short_end.Tie as tie
 
 pick-requires : tie.Need-pick-requires
 pick-requires c κs = search needs
@@ -15,5 +15,5 @@ pick-requires-3 c κs = search needs
 returns : tie.Need-returns
 returns c = rw (c .pick3 .ensures, c .before .pick2 .ensures, c .before .before .pick .ensures)
 
-pub odd-of-spec : {M : Type 1} → statement M
-odd-of-spec = tie.close (tie.spec pick-requires pick-requires-2 pick-requires-3 returns)
+pub short-end-spec : {M : Type 1} → statement M
+short-end-spec = tie.close (tie.spec pick-requires pick-requires-2 pick-requires-3 returns)
