@@ -1,13 +1,13 @@
 -- A 0D that nothing follows: by the reader of places it is pending, and nothing else is that the bytes' reader would settle.
 use mathlib.Core.Path.{_≡_, refl, sym, ap, _∙_}
 use mathlib.Core.Logic.{_↔_, _⊎_, inl, inr}
-use Prim.Native.Nat.{ℕ, zero, suc, _≤_}
+use Prim.Native.Nat.{ℕ, zero, suc}
 use mathlib.Core.Bool.{Bool, true, false, cond, not, _&&_, true≢false}
 use mathlib.Core.List.{List, [], _∷_}
 use lib.ListN.{length, getD, take, drop}
 use lib.Seq.{length-take-le, getD-take}
 use lib.Dec.{eqb}
-use borrow.Author.Tests.{not-true, eqb-true, ne-eqb, eq-eqb}
+use borrow.Author.Tests.{eqb-true, ne-eqb}
 use native.Mathlib.Omega.{arith}
 use Rattle.theory.specs.Reader.{pending}
 use Rattle.theory.specs.Tally.{total, size}
@@ -18,7 +18,6 @@ use Rattle.terms.specs.Limits.{mostPending}
 use Rattle.terms.specs.Told.{toldFirst, firstSays}
 use Rattle.terms.specs.declared.First.{First}
 use Rattle.utf8.specs.Bytes.{rows, loneByte, bytes}
-use Rattle.utf8.specs.Pending.{zeros}
 use Rattle.utf8.proofs.RowsOfBytes.{bytes-top, rows-sound}
 use Rattle.utf8_pending.specs.Tail.{firstSettled, isTail}
 use Rattle.utf8_pending.proofs.HeldInPlaces.{tail-long, tail-is, is-tail}
@@ -62,7 +61,7 @@ waits-lone : waitsBehind (0x0D ∷ []) [] ≡ true
 unfolding waitsBehind
 waits-lone = refl
 
-pub waits-none : waitsBehind [] [] ≡ false
+waits-none : waitsBehind [] [] ≡ false
 unfolding waitsBehind
 waits-none = refl
 
@@ -136,7 +135,7 @@ module _ (held : List ℕ) (n : ℕ) where
       let p : pending reader (take n held) ≡ true = kept-exactly (take n held) .1 (inl (pending-is (take n held) .0 (t .begins))) in
       is-tail reader held n (record { few = t .few; begins = p; unused = t .unused })
 
-  pub tail-not : isTail bytes held n ≡ false → waitsBehind (take n held) [] ≡ false → false ≡ isTail reader held n
+  tail-not : isTail bytes held n ≡ false → waitsBehind (take n held) [] ≡ false → false ≡ isTail reader held n
   tail-not e w = sym (rw (pending-bytes (take n held) w) e)
 
 pub tail-other : (held : List ℕ) (n : ℕ) → length held ≡ mostPending → isTail bytes held n ≡ false → (n ≡ 1 → ⊥) → false ≡ isTail reader held n

@@ -8,9 +8,9 @@ use lib.Seq.{drop-drop, getD-drop, getD-take, length-take-le}
 use native.Mathlib.Omega.{arith}
 use Rattle.theory.specs.Reader.{Segment, first, rest, cut, parts}
 use Rattle.theory.specs.Table.{Kind, whole}
-use Rattle.theory.specs.Tally.{total, size, entries}
+use Rattle.theory.specs.Tally.{total, size}
 use Rattle.theory.specs.Place.{last}
-use Rattle.theory.proofs.Cases.{split, under, All}
+use Rattle.theory.proofs.Cases.{split, under}
 use Rattle.theory.proofs.Divisions.{before, total-append, by-segments, cut-nil, cut-cons, cut-size, first-size, parts-sure}
 use Rattle.theory.proofs.PlacesFound.{last-over, last-here}
 use Rattle.terms.specs.Limits.{limit}
@@ -18,9 +18,8 @@ use Rattle.terms.proofs.ConvertsBack.{AllWhole, none-whole, whole-none}
 use Rattle.utf8.specs.Bytes.{bytes}
 use Rattle.utf8.proofs.RowsOfBytes.{bytes-division, whole-sure}
 use Rattle.utf8_scan.specs.Stands.{isLater}
-use Rattle.utf8_count.specs.Counts.{startOf, fourOf, endsIn}
+use Rattle.utf8_count.specs.Counts.{startOf, fourOf}
 use Rattle.utf8_count.proofs.SumsOfSegments.{Laters, laters-none, formed-first}
-use Rattle.place.specs.Lines.{waitsBehind}
 use Rattle.place.specs.Measures.{Tag, place, unitsOf, linesOf, ruler, reader}
 use Rattle.place.specs.declared.Place.{Place}
 use Rattle.place.proofs.ReaderDivides.{reader-division}

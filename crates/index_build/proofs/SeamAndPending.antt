@@ -15,7 +15,6 @@ use Rattle.theory.proofs.Divisions.{cut-nil, cut-cons, takes-all, first-size}
 use Rattle.terms.specs.Limits.{mostPending}
 use Rattle.place.proofs.ReaderDivides.{reader-division, reader-hold}
 use Rattle.utf8_pending.specs.Tail as tail
-use Rattle.utf8_pending.proofs.SettledFirst.{settled-inside}
 use Rattle.utf8_pending.proofs.SeamIsFirst.{seam-pending, seam-over, seam-inside, seam-behind}
 use Rattle.utf8_count.specs.Counts.{endFirst}
 use Rattle.place.specs.Measures.{ruler, reader}
@@ -86,9 +85,6 @@ module _ (b : Builder) (piece seam row : List ℕ) (s : Seams b piece seam row) 
   module _ (some : taken ≡ 0 → ⊥) where
     some-four : total size (tail.firstSettled reader (tail.four (left b) piece)) ≡ 0 → ⊥
     some-four z = some (taken-is ∙ z)
-
-    pub join-some : 0 < length seam
-    join-some = omega (arith, settled-inside reader-short seam, some)
 
     pub join-over : b .pending ≤ taken
     join-over = omega (arith, seam-over reader-short (left b) piece (passes .tail .begins) some-four, long, taken-is)

@@ -132,9 +132,6 @@ module _ (text : List ℕ) (from : Place) (row₀ : List ℕ) where
       inside-next : at + n ≤ length text
       inside-next = omega (arith, settled-inside reader-short (drop at text), length-drop at text, d .inside)
 
-      pub walked-some : at < length text
-      walked-some = omega (arith, inside-next, z)
-
       pub walked-ahead : {ends : ℕ} → ends ≡ endFirst (drop at text) → Ahead p n ends row
       walked-ahead e = record {
         fits = d .fits;

@@ -8,7 +8,7 @@ use mathlib.Core.List.{List, [], _∷_, _++_}
 use lib.ListN.{length, getD, take, drop, length-drop, take-append-drop}
 use lib.Seq.{length-take-le}
 use lib.Dec.{eqb}
-use borrow.Author.Tests.{eqb-true, eqb-false, ne-eqb}
+use borrow.Author.Tests.{eqb-true, ne-eqb}
 use native.Mathlib.Omega.{arith}
 use Rattle.theory.specs.Reader.{Look, body, first, rest}
 use Rattle.theory.specs.Table.{_to_, within, Kind, whole, damage}
@@ -24,7 +24,7 @@ use Rattle.utf8_count.specs.Counts.{endOf, endFirst, endsIn}
 use Rattle.utf8_count.proofs.SumsOfSegments.{Laters, formed}
 use Rattle.utf8_count.proofs.LineEndsAdd.{ends-add, ends-laters}
 use Rattle.place.proofs.ReaderDivides.{reader-division}
-use Rattle.place.specs.Lines.{feeds, endsLine}
+use Rattle.place.specs.Lines.{followed, endsLine}
 use Rattle.place.specs.Measures.{linesOf, ruler, reader}
 use Rattle.place.specs.declared.Place.{Place}
 use Rattle.place.proofs.MeasuresRise.{measured, places-keep}
@@ -40,16 +40,16 @@ low-read : (x : ℕ) (xs : List ℕ) → x < 0x80 → bytes x xs ≡ record { mo
 unfolding bytes rows
 low-read x xs h = rw (in-yes (0x00 to 0x7F) x (omega arith) (omega arith))
 
-fed-behind : (xs : List ℕ) → _≡_ {A = ℕ} (cond (not (feeds xs)) 1 0) (cond (eqb (getD xs 0 0) 0x0A) 0 1)
-fed-behind [] = refl
-fed-behind (y ∷ ys) = split (eqb y 0x0A) (λ e. rw e) (λ e. rw e)
+followed-by : (xs : List ℕ) → _≡_ {A = ℕ} (cond (not (followed xs)) 1 0) (cond (eqb (getD xs 0 0) 0x0A) 0 1)
+followed-by [] = refl
+followed-by (y ∷ ys) = split (eqb y 0x0A) (λ e. rw e) (λ e. rw e)
 
 low-count : (x : ℕ) (xs : List ℕ) → x < 0x80 → cond (endsLine (x ∷ []) xs) 1 0 ≡ endFirst (x ∷ xs)
 unfolding endsLine endOf
 low-count x xs h = split (eqb x 0x0A)
     (λ e. rw e)
     (λ e. split (eqb x 0x0D)
-    (λ d. rw (e, d) (fed-behind xs))
+    (λ d. rw (e, d) (followed-by xs))
     (λ d. rw (e, d, ne-eqb x 0xC2 (omega arith), ne-eqb x 0xE2 (omega arith))))
 
 low-ends : (x : ℕ) (xs : List ℕ) → x < 0x80 → Ends x xs

@@ -5,15 +5,15 @@ use mathlib.Core.List.{List, [], _∷_}
 use lib.Dec.{eqb}
 use Rattle.theory.specs.Lines.{Rule}
 
--- the byte 0A stands first in a text
-abbrev pub feeds : List ℕ → Bool
-feeds [] = false
-feeds (x ∷ xs) = eqb x 0x0A
+-- 0A follows: it stands first in the text behind
+abbrev pub followed : List ℕ → Bool
+followed [] = false
+followed (x ∷ xs) = eqb x 0x0A
 
 -- A LINE ENDS after a segment 0A, after 0D unless 0A follows, after C2 85, E2 80 A8 and E2 80 A9, and nowhere else
 unfoldable pub endsLine : List ℕ → List ℕ → Bool
 endsLine [] behind = false
-endsLine (x ∷ []) behind = eqb x 0x0A || (eqb x 0x0D && not (feeds behind))
+endsLine (x ∷ []) behind = eqb x 0x0A || (eqb x 0x0D && not (followed behind))
 endsLine (x ∷ y ∷ []) behind = eqb x 0xC2 && eqb y 0x85
 endsLine (x ∷ y ∷ z ∷ []) behind = eqb x 0xE2 && (eqb y 0x80 && (eqb z 0xA8 || eqb z 0xA9))
 endsLine (x ∷ y ∷ z ∷ t ∷ ts) behind = false

@@ -4,15 +4,14 @@ use Prim.Native.Nat.{ℕ, zero, suc, _+_, _-_, _≤_, _<_}
 use native.Mathlib.Nat.{zero-add, add-zero}
 use mathlib.Core.Bool.{Bool, true, false, cond}
 use mathlib.Core.List.{List, [], _∷_, _++_}
-use lib.ListN.{length, getD, take, drop}
+use lib.ListN.{length, getD, drop}
 use lib.Seq.{drop-drop, drop-length, getD-drop}
 use lib.Dec.{leb, ltb, eqb}
 use borrow.Author.Tests.{leb-true, ltb-true, ne-eqb}
 use native.Mathlib.Omega.{arith}
-use Rattle.theory.specs.Tally.{total}
 use Rattle.theory.proofs.Cases.{split, both}
 use Rattle.utf8_scan.specs.Stands.{isLater}
-use Rattle.utf8_count.specs.Counts.{startOf, endOf, endFirst, endsIn}
+use Rattle.utf8_count.specs.Counts.{endOf, endFirst, endsIn}
 use Rattle.utf8_count.specs.Inside.Ends.{shortEnd, longOf}
 use Rattle.utf8_count.proofs.SumsOfSegments.{Laters}
 
@@ -112,17 +111,6 @@ ends-over n text h =
 pub ends-laters : (ys zs : List ℕ) → Laters ys → endsIn (length ys) (ys ++ zs) ≡ 0
 ends-laters [] zs a = refl
 ends-laters (y ∷ ys) zs a = omega (arith, end-later y (getD (ys ++ zs) 0 0) (getD (ys ++ zs) 1 0) (a .0), ends-laters ys zs (a .1))
-
--- so there are no more than bytes that are none
-pub ends-starts : (n : ℕ) (text : List ℕ) → endsIn n text ≤ total startOf (take n text)
-ends-starts zero text = omega arith
-ends-starts (suc n) [] = omega (arith, ends-nothing (suc n))
-ends-starts (suc n) (x ∷ xs) =
-    let y : ℕ = getD xs 0 0 in
-    let z : ℕ = getD xs 1 0 in
-    split (isLater x)
-    (λ e. rw e (omega (arith, end-later x y z e, ends-starts n xs)))
-    (λ e. rw e (omega (arith, end-few x y z, ends-starts n xs)))
 
 -- ---- counted byte by byte, as long as none is longer than a byte
 

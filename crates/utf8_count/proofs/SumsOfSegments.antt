@@ -2,7 +2,7 @@
 use mathlib.Core.Path.{_≡_, refl, sym, ap, _∙_}
 use Prim.Native.Nat.{ℕ, _+_, _≤_, _<_}
 use mathlib.Core.Bool.{true, cond}
-use mathlib.Core.List.{List, [], _∷_, _++_}
+use mathlib.Core.List.{List, [], _∷_}
 use lib.ListN.{length, take, drop, length-drop, take-append-drop}
 use lib.Seq.{length-take-le}
 use lib.Dec.{leb, ltb}
@@ -14,7 +14,7 @@ use Rattle.theory.specs.Sequence.{Sequence}
 use Rattle.theory.specs.Tally.{total}
 use Rattle.theory.proofs.Cases.{All, both}
 use Rattle.theory.proofs.Divisions.{total-append, cut-nil, cut-cons, by-segments}
-use Rattle.theory.proofs.SequencesAreWhole.{by-rows, whole-sequence, cut-sequence}
+use Rattle.theory.proofs.SequencesAreWhole.{by-rows, whole-sequence}
 use Rattle.terms.specs.Form.{pointOf}
 use Rattle.terms.proofs.ConvertsBack.{AllWhole}
 use Rattle.utf8_scan.specs.Stands.{isLater}
@@ -100,10 +100,6 @@ module _ (x : ℕ) (xs : List ℕ) (w : bytes x xs .tag ≡ whole) where
 
   pub formed-first : Formed (x ∷ take (bytes x xs .more) xs)
   formed-first = formed (x ∷ take (bytes x xs .more) xs) sequence
-
-  pub cut-first : (ys : List ℕ) → cut bytes (x ∷ (take (bytes x xs .more) xs ++ ys)) ≡ record { head = x; tail = take (bytes x xs .more) xs; tag = whole } ∷ cut bytes ys
-  unfolding bytes
-  cut-first ys = cut-sequence rows loneByte rows-sound x (take (bytes x xs .more) xs) ys sequence
 
 -- ---- THE COUNTS OF A TEXT OF WHOLE SEGMENTS
 

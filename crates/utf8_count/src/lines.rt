@@ -14,6 +14,7 @@ fn pick(x: u8, a: u8, y: u8, other: u8) -> u8
     if x == a { y } else { other }
 }
 
+// One where a line ends behind what begins with x, and y and z stand behind it.
 fn end_of(x: u8, y: u8, z: u8) -> u8
     ensures { λ r. ⌜ r ≡ endOf x y z ⌝ }
 {
@@ -37,6 +38,7 @@ fn ends_none(x: u8) -> bool
     0xE2 < x
 }
 
+// The byte at a place of a text, and 0 behind its end.
 fn byte_at(text: &[u8], i: usize) -> u8
     ensures { λ r. ⌜ r ≡ getD (now (text .entry)) i 0 ⌝ }
 {

@@ -11,7 +11,7 @@ use Rattle.utf8_count.specs.Counts.{endFirst}
 use Rattle.place.specs.Measures.{reader}
 use Rattle.index_build.specs.Inside.Steps.{Walked}
 use Rattle.index_build.proofs.LoneReturn.{told-settled}
-use Rattle.index_build.proofs.StreamBehindWalk.{walked-start, walked-some, walked-ahead, walked-next, walked-stretched}
+use Rattle.index_build.proofs.StreamBehindWalk.{walked-start, walked-ahead, walked-next, walked-stretched}
 use Rattle.index_build.proofs.stretch.Statement.{statement}
 use Rattle.index_build.proofs.stretch.Tie as tie
 
