@@ -7,7 +7,7 @@ use mathlib.Core.List.{List, [], _∷_}
 use lib.ListN.{length, getD, take, drop}
 use lib.Seq.{length-take-le, getD-take}
 use lib.Dec.{eqb}
-use borrow.Author.Tests.{eqb-true, ne-eqb}
+use borrow.Author.Tests.{eqb-true, eq-eqb, ne-eqb}
 use native.Mathlib.Omega.{arith}
 use Rattle.theory.specs.Reader.{pending}
 use Rattle.theory.specs.Tally.{total, size}
@@ -85,8 +85,19 @@ settled-size (x ∷ xs) = split (waitsBehind (x ∷ xs) [])
     and-none true = refl
     and-none false = refl
 
+one-settled : total size (firstSettled bytes (0x0D ∷ [])) ≡ 1
+unfolding firstSettled bytes rows
+one-settled = refl
+
 pub told-settled : (seg : First) (text : List ℕ) → toldFirst seg ≡ firstSays bytes text → settledBy text seg ≡ total size (firstSettled reader text)
-told-settled seg text e = rw (told-size seg text e) (sym (settled-size text))
+told-settled seg text e =
+    let n : ℕ = total size (firstSettled bytes text) in
+    rw (told-size seg text e, settled-size text)
+    (split (waitsBehind text [])
+    (λ w.
+    let o : n ≡ 1 = ap (λ (t : List ℕ). total size (firstSettled bytes t)) (waits-one text w) ∙ one-settled in
+    rw (w, eq-eqb n 1 o))
+    (λ w. split (eqb n 1) (λ i. rw (w, i)) (λ i. rw (w, i))))
 
 pub left-empty : (text : List ℕ) → length text ≡ 0 → isLeft text ≡ true
 left-empty [] e = refl

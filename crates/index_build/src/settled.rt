@@ -30,10 +30,14 @@ pub(crate) fn is_left(text: &[u8]) -> bool
 pub(crate) fn settled_by(text: &[u8], seg: First) -> usize
     ensures { λ r. ⌜ r ≡ settledBy (now (text .entry)) seg ⌝ }
 {
+    let size = utf8_pending::settled_size(seg);
+    if size != 1 {
+        return size;
+    }
     if is_return(text) {
         return 0;
     }
-    utf8_pending::settled_size(seg)
+    size
 }
 
 // How many bytes of a text are whole segments and settled: all before the first damage, but for a 0D that ends the text.

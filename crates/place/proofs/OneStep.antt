@@ -24,9 +24,9 @@ use Rattle.place.proofs.LineEnds.{first-ends}
 
 -- ---- what `step_by` adds: nothing at the end of the text, or the reader told of `n` bytes at the start of the rest
 
-pub stepped-end : (look : Reader Kind) (p : Place) (rest : List ℕ) → length rest ≡ 0 → p ≡ steppedBy look p rest
-stepped-end look p [] h = refl
-stepped-end look p (x ∷ xs) h = absurd (omega arith)
+pub stepped-end : (look : Reader Kind) (p : Place) (rest : List ℕ) (ends : ℕ) → length rest ≡ 0 → p ≡ steppedBy look p rest ends
+stepped-end look p [] ends h = refl
+stepped-end look p (x ∷ xs) ends h = absurd (omega arith)
 
 told-size : (r : First) (l : Look Kind) → told.toldFirst r ≡ told.lookSays l → told.sizeOf r ≡ suc (l .more)
 told-size Nothing l e = let z : _≡_ {A = ℕ} 0 1 = cc in absurd (omega arith)
@@ -34,15 +34,15 @@ told-size (Whole n) l e = cc
 told-size (Damage n c) l e = cc
 told-size (Begun n) l e = cc
 
-pub added : (look : Reader Kind) → Division look → (p : Place) (rest : List ℕ) → 0 < length rest → (r : First)
-    → told.toldFirst r ≡ told.firstSays look rest → (n : ℕ) → n ≡ told.sizeOf r → wrapped (behind p n (endFirst rest)) ≡ steppedBy look p rest
-added look d p [] h r e n i = absurd (omega arith)
-added look d p (x ∷ xs) h r e n i =
+pub added : (look : Reader Kind) → Division look → (p : Place) (rest : List ℕ) (ends : ℕ) → 0 < length rest → (r : First)
+    → told.toldFirst r ≡ told.firstSays look rest → (n : ℕ) → n ≡ told.sizeOf r → wrapped (behind p n ends) ≡ steppedBy look p rest ends
+added look d p [] ends h r e n i = absurd (omega arith)
+added look d p (x ∷ xs) ends h r e n i =
     let k : n ≡ size (first look x xs) = omega (arith, told-size r (look x xs) e, first-size d x xs) in
     rw k
 
 -- WITH THE BYTES' READER it is the ruler's step: a segment's size tells its units, and the bytes whether a line ends behind it
-pub stepped-ruled : (p : Place) (x : ℕ) (xs : List ℕ) → steppedBy bytes p (x ∷ xs) ≡ wrapped (ruler .step p (first reader x xs))
+pub stepped-ruled : (p : Place) (x : ℕ) (xs : List ℕ) → steppedBy bytes p (x ∷ xs) (endFirst (x ∷ xs)) ≡ wrapped (ruler .step p (first reader x xs))
 stepped-ruled p x xs = rw (units-by-size x xs, first-ends x xs .count)
 
 -- THE SUMS ARE PLAIN where there is room
@@ -54,7 +54,7 @@ wrapped-same p b u c l =
     let el : p .lines % 2 ^ 64 ≡ p .lines = omega arith in
     rw (eb, eu, ec, el)
 
-pub stepped-plain : (p : Place) (x : ℕ) (xs : List ℕ) → Roomy p (x ∷ xs) → steppedBy bytes p (x ∷ xs) ≡ ruler .step p (first reader x xs)
+pub stepped-plain : (p : Place) (x : ℕ) (xs : List ℕ) → Roomy p (x ∷ xs) → steppedBy bytes p (x ∷ xs) (endFirst (x ∷ xs)) ≡ ruler .step p (first reader x xs)
 stepped-plain p x xs r =
     let s : Segment Tag = first reader x xs in
     let n : size s ≤ length (x ∷ xs) = omega (arith, first-size reader-division x xs, reader-division .fits x xs) in
@@ -75,11 +75,11 @@ pub record Taken (text : List ℕ) (at : ℕ) (p q : Place) : Type 0 where
   pub cuts : cut reader (drop at text) ≡ segment ∷ cut reader (drop (at + size segment) text)
 
 -- it is what a step by that reader gives of `&text[at..]`, where there is room
-pub taken : (look : Reader Kind) → look ≡ bytes → (text : List ℕ) (at : ℕ) (p q : Place) → at < length text → Roomy p (drop at text)
-    → q ≡ steppedBy look p (take (length text - at) (drop at text)) → Taken text at p q
-taken look l text at p q h r e = of-rest (drop at text) refl r (rw (part-is, l) at e)
+pub taken : (look : Reader Kind) → look ≡ bytes → (text : List ℕ) (at : ℕ) (p q : Place) (ends : ℕ) → at < length text → Roomy p (drop at text)
+    → ends ≡ endFirst (take (length text - at) (drop at text)) → q ≡ steppedBy look p (take (length text - at) (drop at text)) ends → Taken text at p q
+taken look l text at p q ends h r n e = of-rest (drop at text) refl r (rw (n, part-is, l) at e)
   where
-    of-rest : (rest : List ℕ) → drop at text ≡ rest → Roomy p rest → q ≡ steppedBy bytes p rest → Taken text at p q
+    of-rest : (rest : List ℕ) → drop at text ≡ rest → Roomy p rest → q ≡ steppedBy bytes p rest (endFirst rest) → Taken text at p q
     of-rest [] d r e = absurd (omega (arith, length-drop at text, ap length d))
     of-rest (x ∷ xs) d r e =
         let n : size (first reader x xs) ≡ suc (reader x xs .more) = first-size reader-division x xs in

@@ -9,7 +9,6 @@ use Rattle.theory.specs.Table.{Kind}
 use Rattle.theory.specs.Tally.{size}
 use Rattle.theory.specs.Place.{lookup, last}
 use Rattle.terms.specs.Limits.{limit}
-use Rattle.utf8_count.specs.Counts.{endFirst}
 use Rattle.place.specs.Measures.{place, ruler, reader}
 use Rattle.place.specs.Lookup.{fourCounts, foundSays}
 use Rattle.place.specs.declared.Place.{Place}
@@ -41,11 +40,11 @@ wrapped p = place (p .bytes % 2 ^ 64) (p .units % 2 ^ 64) (p .points % 2 ^ 64) (
 abbrev pub behind : Place → ℕ → ℕ → Place
 behind p size ends = place (p .bytes + size) (p .units + unitsBySize size) (p .points + 1) (p .lines + ends)
 
--- the place one segment behind another by any reader, where the rest of the text is given, which tells whether a line ends there;
--- counts are modulo 2^64
-abbrev pub steppedBy : Reader Kind → Place → List ℕ → Place
-steppedBy look p [] = p
-steppedBy look p (x ∷ xs) = wrapped (behind p (size (first look x xs)) (endFirst (x ∷ xs)))
+-- the place one segment behind another by any reader, where the rest of the text is given, and how many lines end there; counts are
+-- modulo 2^64
+abbrev pub steppedBy : Reader Kind → Place → List ℕ → ℕ → Place
+steppedBy look p [] ends = p
+steppedBy look p (x ∷ xs) ends = wrapped (behind p (size (first look x xs)) ends)
 
 -- no count can go past the largest number on the way through the rest
 pub record Roomy (p : Place) (rest : List ℕ) : Type 0 where

@@ -100,9 +100,10 @@ pub fn units_of(size: usize) -> usize
     if size == 4 { 2 } else { 1 }
 }
 
-// The place one segment behind p, by any table of classes; the rest of the text is given from p on. Counts are modulo 2^64.
-pub fn step_by(p: Place, rest: &[u8], classes: &[u8; 256]) -> Place
-    ensures { λ r. ⌜ r ≡ steppedBy (byClasses (now (classes .entry))) p (now (rest .entry)) ⌝ }
+// The place one segment behind p, by any table of classes; the rest of the text is given from p on, and how many lines end behind
+// that segment. Counts are modulo 2^64.
+pub fn step_by(p: Place, rest: &[u8], classes: &[u8; 256], ends: usize) -> Place
+    ensures { λ r. ⌜ r ≡ steppedBy (byClasses (now (classes .entry))) p (now (rest .entry)) ends ⌝ }
 {
     if rest.len() == 0 {
         return p;
@@ -112,6 +113,6 @@ pub fn step_by(p: Place, rest: &[u8], classes: &[u8; 256]) -> Place
         bytes: std::num::wrapping_add_usize(p.bytes, size),
         units: std::num::wrapping_add_usize(p.units, units_of(size)),
         points: std::num::wrapping_add_usize(p.points, 1),
-        lines: std::num::wrapping_add_usize(p.lines, utf8_count::end_first(rest)),
+        lines: std::num::wrapping_add_usize(p.lines, ends),
     }
 }

@@ -22,7 +22,7 @@ fn reach(text: &[u8], from: Place, most: Offset, classes: &[u8; 256]) -> Place
     let mut p = from;
     let mut at: usize = 0;
     while at < text.len() {
-        let q = place::step_by(p, &text[at..], classes);
+        let q = place::step_by(p, &text[at..], classes, utf8_count::end_first(&text[at..]));
         if most.number() < most.count(q) {
             return p;
         }

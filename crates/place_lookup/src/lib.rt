@@ -34,7 +34,7 @@ fn walk(text: &[u8], from: Place, to: Offset, classes: &[u8; 256]) -> Placed
         if at == text.len() {
             return Placed::Refused(Refusal::PastEnd);
         }
-        p = place::step_by(p, &text[at..], classes);
+        p = place::step_by(p, &text[at..], classes, utf8_count::end_first(&text[at..]));
         at = p.bytes - from.bytes;
     }
 }

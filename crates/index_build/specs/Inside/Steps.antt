@@ -1,11 +1,11 @@
 -- What the builder's steps promise each other: the checkpoint between two places, the settled segments of a text, and a call.
 use mathlib.Core.Path.{_≡_}
 use Prim.Native.Nat.{ℕ, _+_, _-_, _*_, _≤_, _<_}
-use mathlib.Core.Bool.{Bool, true, cond}
+use mathlib.Core.Bool.{Bool, true, cond, _&&_}
 use mathlib.Core.List.{List, [], _∷_}
 use lib.ListN.{length, drop}
 use lib.Seq.{sets}
-use lib.Dec.{leb}
+use lib.Dec.{leb, eqb}
 use Rattle.theory.specs.Stream.{State}
 use Rattle.theory.specs.Stream as stream
 use Rattle.theory.specs.Tally.{written, total, size}
@@ -71,9 +71,9 @@ pub record Walks (from : Place) (text row : List ℕ) : Type 0 where
   pub within : from .bytes + length text ≤ limit
   pub room : needed (from .bytes + length text) ≤ length row
 
--- how many bytes of a text are settled by the segment that is told to stand first in it: none of a lone 0D
+-- how many bytes of a text are settled by the segment that is told to stand first in it: not the one of a lone 0D
 abbrev pub settledBy : List ℕ → First → ℕ
-settledBy text seg = cond (waitsBehind text []) 0 (settledSize seg)
+settledBy text seg = cond (eqb (settledSize seg) 1 && waitsBehind text []) 0 (settledSize seg)
 
 -- nothing of a text is settled, as it is empty or a lone 0D
 abbrev pub isLeft : List ℕ → Bool

@@ -8,7 +8,7 @@ use Rattle.place.proofs.step_by.Statement.{statement}
 use Rattle.place.proofs.step_by.Tie as tie
 
 returns : tie.Need-returns
-returns c = let a = c .before .before .args in stepped-end (byClasses (a .classes .now)) (a .p) (a .rest .now) (c .if1 .taken)
+returns c = let a = c .before .before .args in stepped-end (byClasses (a .classes .now)) (a .p) (a .rest .now) (a .ends) (c .if1 .taken)
 
 segment-by-requires : tie.Need-segment-by-requires
 segment-by-requires c κs = search needs
@@ -28,16 +28,12 @@ wrapping-add-usize-requires-2 c κs = search needs
 wrapping-add-usize-requires-3 : tie.Need-wrapping-add-usize-requires-3
 wrapping-add-usize-requires-3 c κs = search needs
 
-end-first-requires : tie.Need-end-first-requires
-end-first-requires c κs = search needs
-
 wrapping-add-usize-requires-4 : tie.Need-wrapping-add-usize-requires-4
 wrapping-add-usize-requires-4 c κs = search needs
 
 returns-2 : tie.Need-returns-2
 returns-2 c =
-    let l = c .before in
-    let k = l .before in
+    let k = c .before in
     let v = k .before in
     let u = v .before in
     let b = u .before in
@@ -45,9 +41,9 @@ returns-2 c =
     let g = s .before in
     let e = g .before in
     let a = e .before .before .args in
-    let h = added (byClasses (a .classes .now)) (classes-division (a .classes .now)) (a .p) (a .rest .now) (omega (arith, e .if1 .left)) (g .segment-by .result) (g .segment-by .ensures) in
+    let h = added (byClasses (a .classes .now)) (classes-division (a .classes .now)) (a .p) (a .rest .now) (a .ends) (omega (arith, e .if1 .left)) (g .segment-by .result) (g .segment-by .ensures) in
     rw (b .wrapping-add-usize .ensures, v .wrapping-add-usize2 .ensures, u .units-of .ensures)
-    (rw (k .wrapping-add-usize3 .ensures, c .wrapping-add-usize4 .ensures, l .end-first .ensures) (h (s .size .result) (s .size .ensures)))
+    (rw (k .wrapping-add-usize3 .ensures, c .wrapping-add-usize4 .ensures) (h (s .size .result) (s .size .ensures)))
 
 pub step-by-spec : {M : Type 1} → statement M
 step-by-spec =
@@ -60,6 +56,5 @@ step-by-spec =
     units-of-requires
     wrapping-add-usize-requires-2
     wrapping-add-usize-requires-3
-    end-first-requires
     wrapping-add-usize-requires-4
     returns-2)

@@ -68,37 +68,50 @@ more c =
     let l = c .before .before .before .before in
     omega (arith, l .loop .inv .inside, c .if3 .left)
 
+sub-end-first : tie.Need-sub-end-first Inv-loop μ-loop
+sub-end-first c = search needs
+
+part-end-first-start : tie.Need-part-end-first-start Inv-loop μ-loop
+part-end-first-start c = search needs
+
+part-end-first-end : tie.Need-part-end-first-end Inv-loop μ-loop
+part-end-first-end c = search needs
+
+end-first-requires : tie.Need-end-first-requires Inv-loop μ-loop
+end-first-requires c κs = search needs
+
 step-by-requires : tie.Need-step-by-requires Inv-loop μ-loop
 step-by-requires c κs = search needs
 
 -- one segment more
 turned : (c : tie.After-step-by Inv-loop μ-loop)
-    → let l = c .before .before .before .before .before .before in
+    → let l = c .before .before .before .before .before .before .before .before in
     Taken (l .before .before .before .args .text .now) (l .loop .at) (l .loop .p) (c .step-by .result)
 turned c =
-    let l = c .before .before .before .before .before .before in
-    taken _ (l .before .before .before .pre .1) (l .before .before .before .args .text .now) (l .loop .at) (l .loop .p) (c .step-by .result) (more (c .before .before))
-    (l .loop .inv .roomy) (c .step-by .ensures)
+    let f = c .before in
+    let l = f .before .before .before .before .before .before .before in
+    taken _ (l .before .before .before .pre .1) (l .before .before .before .args .text .now) (l .loop .at) (l .loop .p) (c .step-by .result) (f .end-first .result)
+    (more (f .before .before .before)) (l .loop .inv .roomy) (f .end-first .ensures) (c .step-by .ensures)
 
 sub-at : tie.Need-sub-at Inv-loop μ-loop
 sub-at c =
     let s = c .before .before in
     let t = turned s in
-    omega (arith, t .bytes-are, s .before .before .before .before .before .before .loop .inv .bytes-are)
+    omega (arith, t .bytes-are, s .before .before .before .before .before .before .before .before .loop .inv .bytes-are)
 
 loop-less : tie.Need-loop-less Inv-loop μ-loop
 loop-less c =
     let s = c .before .before in
     let t = turned s in
-    omega (arith, t .bytes-are, t .inside, s .before .before .before .before .before .before .loop .inv .bytes-are)
+    omega (arith, t .bytes-are, t .inside, s .before .before .before .before .before .before .before .before .loop .inv .bytes-are)
 
 loop-again : tie.Need-loop-again Inv-loop μ-loop
 loop-again c =
     let s = c .before .before in
     let t = turned s in
-    let l = s .before .before .before .before .before .before in
+    let l = s .before .before .before .before .before .before .before .before in
     let to = l .before .before .before .args .to in
-    seeks-next (measure to) (number to) (l .loop .inv) (short (s .before .before .before)) t (omega (arith, t .bytes-are, l .loop .inv .bytes-are))
+    seeks-next (measure to) (number to) (l .loop .inv) (short (s .before .before .before .before .before)) t (omega (arith, t .bytes-are, l .loop .inv .bytes-are))
 
 pub walk-spec : {M : Type 1} → statement M
 walk-spec =
@@ -115,6 +128,10 @@ walk-spec =
     sub-step-by
     part-step-by-start
     part-step-by-end
+    sub-end-first
+    part-end-first-start
+    part-end-first-end
+    end-first-requires
     step-by-requires
     sub-at
     loop-less
