@@ -4,7 +4,7 @@ ghost use mathlib.Core.Path.{_≡_};
 ghost use mathlib.Core.List.{[]};
 ghost use Rattle.place.specs.Lines.{waitsBehind};
 ghost use Rattle.index_build.specs.Inside.Steps.{settledBy, isLeft};
-ghost use Rattle.index_build.specs.Inside.Runs.{Settled};
+ghost use Rattle.index_build.specs.Inside.Runs.{settledRun};
 
 // Is this text a lone 0D, which may be the beginning of 0D 0A?
 fn is_return(text: &[u8]) -> bool
@@ -42,7 +42,7 @@ pub(crate) fn settled_by(text: &[u8], seg: First) -> usize
 
 // How many bytes of a text are whole segments and settled: all before the first damage, but for a 0D that ends the text.
 pub(crate) fn settled_run(text: &[u8]) -> usize
-    ensures { λ r. ⌜ Settled (now (text .entry)) r ⌝ }
+    ensures { λ r. ⌜ r ≡ settledRun (now (text .entry)) ⌝ }
 {
     let run = utf8_check::whole_run(text);
     if run == 0 {

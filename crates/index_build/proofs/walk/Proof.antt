@@ -8,6 +8,7 @@ use Rattle.terms.proofs.WalkBySegments.{part-is}
 use Rattle.place.specs.declared.Place.{Place}
 use Rattle.index_build.specs.Inside.Steps.{Walked, Closes, isLeft}
 use Rattle.index_build.proofs.LoneReturn.{left-none}
+use Rattle.index_build.proofs.SettledRun.{run-settled}
 use Rattle.index_build.proofs.StreamBehindWalk.{walked-walks, walked-end}
 use Rattle.index_build.proofs.walk.Statement.{statement}
 use Rattle.index_build.proofs.walk.Tie as tie
@@ -16,7 +17,10 @@ settled-run-requires : tie.Need-settled-run-requires
 settled-run-requires c κs = search needs
 
 pass-run-requires : tie.Need-pass-run-requires
-pass-run-requires c κs = let r = c .before in record { walks = r .before .before .before .pre; settled = r .settled-run .ensures }
+pass-run-requires c κs =
+    let r = c .before in
+    let z = r .before .before .before in
+    record { walks = z .pre; settled = run-settled (z .args .text .now) (r .settled-run .result) (r .settled-run .ensures) }
 
 -- behind the run
 ran : (c : tie.After-pass-run)

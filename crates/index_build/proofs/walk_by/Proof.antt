@@ -10,6 +10,7 @@ use Rattle.utf8_pending.specs.Tail.{firstSettled}
 use Rattle.utf8_check.proofs.RunsPassed.{wait-some}
 use Rattle.place.specs.Measures.{reader}
 use Rattle.index_build.specs.Inside.Steps.{Walked, Stretched}
+use Rattle.index_build.proofs.SettledRun.{run-settled}
 use Rattle.index_build.proofs.StreamBehindWalk.{walked-start, walked-on, walked-walks, walked-end, stretched-on, stretched-none, stretched-some}
 use Rattle.index_build.proofs.walk_by.Statement.{statement}
 use Rattle.index_build.proofs.walk_by.Tie as tie
@@ -139,7 +140,7 @@ pass-run-requires c κs =
     let z = s .before .before .before .before .before .before in
     rw part-is (record {
       walks = walked-walks (z .args .text .now) (z .args .from) (z .args .row .now) (z .pre .0) (turned s);
-      settled = rw part-is at (r .settled-run .ensures);
+      settled = run-settled _ (r .settled-run .result) (rw part-is at (r .settled-run .ensures));
     })
 
 ran : (c : tie.After-pass-run Inv-loop μ-loop)

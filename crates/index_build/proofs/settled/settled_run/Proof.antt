@@ -3,13 +3,13 @@ use Prim.Native.Nat.{_-_}
 use mathlib.Core.Path.{_≡_, sym, _∙_}
 use mathlib.Core.List.{[]}
 use lib.ListN.{drop}
+use borrow.Author.Tests.{eq-eqb, ne-eqb}
 use native.Mathlib.Omega.{arith}
 use borrow.Author.Needs.{needs}
 use Rattle.terms.proofs.WalkBySegments.{part-is}
 use Rattle.utf8_check.proofs.RunDivides.{Run}
 use Rattle.utf8_check.proofs.StandingIsWhole.{run-at}
 use Rattle.place.specs.Lines.{waitsBehind}
-use Rattle.index_build.proofs.SettledRun.{settled-none, settled-all, settled-others}
 use Rattle.index_build.proofs.settled.settled_run.Statement.{statement}
 use Rattle.index_build.proofs.settled.settled_run.Tie as tie
 
@@ -21,7 +21,7 @@ there : (c : tie.After-whole-run) → Run (c .before .before .args .text .now) (
 there c = run-at (c .before .before .args .text .now) (c .whole-run .result) (c .whole-run .ensures)
 
 returns : tie.Need-returns
-returns c = rw (c .if1 .taken) (settled-none (c .before .before .before .args .text .now))
+returns c = let r = c .before in rw (← r .whole-run .ensures, eq-eqb (r .whole-run .result) 0 (c .if1 .taken))
 
 sub-is-return : tie.Need-sub-is-return
 sub-is-return c = search needs
@@ -51,14 +51,14 @@ returns-2 c =
     let b = c .before in
     let e = b .before .before in
     let r = e .before in
-    settled-others (r .before .before .args .text .now) (r .whole-run .result) (there r) (e .if1 .left) (sym (ends b) ∙ c .if2 .taken)
+    rw (← r .whole-run .ensures, ne-eqb (r .whole-run .result) 0 (e .if1 .left), sym (ends b) ∙ c .if2 .taken)
 
 returns-3 : tie.Need-returns-3
 returns-3 c =
     let b = c .before in
     let e = b .before .before in
     let r = e .before in
-    settled-all (r .before .before .args .text .now) (r .whole-run .result) (there r) (e .if1 .left) (sym (ends b) ∙ c .if2 .left)
+    rw (← r .whole-run .ensures, ne-eqb (r .whole-run .result) 0 (e .if1 .left), sym (ends b) ∙ c .if2 .left)
 
 pub settled-run-spec : {M : Type 1} → statement M
 settled-run-spec =
