@@ -36,8 +36,8 @@ bytes_lawful = record { hold = most_damaged; division = bytes_division; short = 
 -- AFTER EVERY CALL the state is the one of the joined text, and passes its tests
 pub course_holds : (room : ℕ) (row : List ℕ) → room ≤ most_room → (calls : List Call)
     → let r = fed_all room row calls in Holds room row (join r.pieces) r.caller
-course_holds = any.course-holds byte_decoding bytes_lawful
+course_holds = any.course_holds byte_decoding bytes_lawful
 
 -- AND AT THE END there are the repaired form, the first entries and the totals of the joined text
 pub fed_as_whole : FedAsWhole
-fed_as_whole = any.fed-as-whole byte_decoding bytes_lawful
+fed_as_whole = any.fed_as_whole byte_decoding bytes_lawful

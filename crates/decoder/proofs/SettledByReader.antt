@@ -60,7 +60,7 @@ pub told : (r : First) (text : List ℕ) → told_first r ≡ first_says bytes t
 told r text e =
     let s = settled_is r text e in
     let k = stands r text e in
-    record { settled_is = s; size_is = k.bytes-are ∙ ap (total size) s; places_is = k.places-are ∙ ap need s }
+    record { settled_is = s; size_is = k.bytes-are ∙ ap (total size) s; places_is = k.places_are ∙ ap need s }
 
 -- what stands in a text lies in it
 pub whole-inside : (n : ℕ) (text : List ℕ) → Stands (Whole n) text → n ≤ length text

@@ -20,11 +20,11 @@ use Rattle.decoder_from_utf16.proofs.UnitsLawful.{units_lawful}
 -- AFTER EVERY CALL the state is the one of the joined text, and passes its tests
 pub course_holds : (room : ℕ) (row : List ℕ) → room ≤ most_room → (calls : List Call)
     → let r = fed_all unit_decoding room row calls in Holds unit_decoding room row (join r.pieces) r.caller
-course_holds = any.course-holds unit_decoding units_lawful
+course_holds = any.course_holds unit_decoding units_lawful
 
 -- AND AT THE END there are the first entries and the totals of the joined text, and what is written for it,
 pub fed_as_whole : FedAsWhole unit_decoding
-fed_as_whole = any.fed-as-whole unit_decoding units_lawful
+fed_as_whole = any.fed_as_whole unit_decoding units_lawful
 
 -- which is the joined text as bytes
 pub fed-converted : (room : ℕ) (row : List ℕ) (calls : List Call) (out out' list' said : List ℕ) (next : UnitDecoder)

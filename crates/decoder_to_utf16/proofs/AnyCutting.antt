@@ -31,11 +31,11 @@ to_units_lawful = record {
 -- AFTER EVERY CALL the state is the one of the joined text, and passes its tests
 pub course_holds : (room : ℕ) (row : List ℕ) → room ≤ most_room → (calls : List Call)
     → let r = fed_all to_units room row calls in Holds to_units room row (join r.pieces) r.caller
-course_holds = any.course-holds to_units to_units_lawful
+course_holds = any.course_holds to_units to_units_lawful
 
 -- AND AT THE END there are the first entries and the totals of the joined text, and what is written for it,
 pub fed_as_whole : FedAsWhole to_units
-fed_as_whole = any.fed-as-whole to_units to_units_lawful
+fed_as_whole = any.fed_as_whole to_units to_units_lawful
 
 -- which is the joined text as units
 pub fed-converted : (room : ℕ) (row : List ℕ) (calls : List Call) (out out' list' said : List ℕ) (next : Decoder)

@@ -1,4 +1,5 @@
 // There and back: what two strict conversions granted is the text, and a refusal was due.
+#![tactic(auto)]
 ghost use Rattle.std.specs.Prelude.{◌≡◌, length};
 ghost use Rattle.terms.specs.Strict.{damaged, check_says};
 ghost use Rattle.terms.specs.Told.{told_refusal, told_checked, is_granted};

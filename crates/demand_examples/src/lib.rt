@@ -1,1 +1,2 @@
 // The marked examples, as one theorem about the definitions. There is no code.
+#![tactic(auto)]

@@ -1,5 +1,6 @@
 // Runs the fixed examples, and each call of the front door on a small text, and prints a line for each: the call, what it is asked,
 // and what came. Texts are in hexadecimal; a refusal is its number and its values.
+#![tactic(auto)]
 mod bytes;
 mod index;
 mod pages;

@@ -1,5 +1,6 @@
 // The front door: every call that a user makes, by subject, and the types that it needs. What is not here is not promised to stay.
 // docs/CALLS.md says of each call what it does, what it refuses and what it costs.
+#![tactic(auto)]
 
 // What calls answer, in any subject: the refusals, what stands first in a text, and how long an output is always enough.
 pub use convert_point::{Target, most};

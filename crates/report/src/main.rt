@@ -1,4 +1,5 @@
 // Reports the damages of standard input: a line for each of the first 32, and a line with the totals.
+#![tactic(auto)]
 ghost use Rattle.std.specs.Prelude.{◌≡◌, ◌≤◌, length};
 ghost use Rattle.decoder.specs.Room.{most_fed};
 ghost use Rattle.report.specs.Inside.Going.{Goes};

@@ -1,7 +1,7 @@
 -- The laws of conversion and repair, over any forms: what is written divides as it was meant, and comes back.
 use mathlib.Core.Path.{◌≡◌, refl, sym, ap, ap₂, ◌∙◌}
 use mathlib.Core.Logic.{◌↔◌}
-use Prim.Native.Nat.{ℕ, ◌≤◌}
+use Prim.Native.Nat.{ℕ, ◌+◌, ◌≤◌}
 use mathlib.Core.Bool.{Bool, true, false, true≢false}
 use mathlib.Core.List.{List, [], ◌∷◌, ◌++◌, map, cons≢nil}
 use lib.ListN.{length, get_or}
@@ -10,7 +10,7 @@ use borrow.Author.Tests.{ltb-false, le-ltb}
 use native.Mathlib.Omega.{arith}
 use Rattle.theory.specs.Reader.{Reader, Segment, body, first, rest, cut}
 use Rattle.theory.specs.Table.{Kind, whole, damage, is_damage}
-use Rattle.theory.specs.Tally.{written, Entry, entries}
+use Rattle.theory.specs.Tally.{size, written, Entry, entries}
 use Rattle.theory.proofs.Cases.{split, All}
 use Rattle.theory.proofs.Divisions.{cut-nil, cut-cons, by-segments, cut-text}
 use Rattle.terms.specs.Limits.{limit}
@@ -32,11 +32,11 @@ pub none-whole : (at : ℕ) (ss : List (Segment Kind)) → entries is_damage at 
 none-whole at [] e = tt
 none-whole at (s ∷ ss) e = split (is_damage s.tag)
     (λ d. absurd (cons≢nil (rw d at e)))
-    (λ d. (whole_is s.tag d, none-whole _ ss (rw d at e)))
+    (λ d. (whole_is s.tag d, none-whole (at + size s) ss (rw d at e)))
 
 pub whole-none : (at : ℕ) (ss : List (Segment Kind)) → AllWhole ss → entries is_damage at ss ≡ []
 whole-none at [] h = refl
-whole-none at (s ∷ ss) h = rw h.0 (whole-none _ ss h.1)
+whole-none at (s ∷ ss) h = rw h.0 (whole-none (at + size s) ss h.1)
 
 -- ---- the code points of a faithful form
 

@@ -31,10 +31,10 @@ module _ (rows : List Row) (strays foreigners : List Range) (cause : ℕ → ℕ
 
   -- what is begun is no lone element
   no_stray : (n : ℕ) → Begun rows text n → among strays x ≡ true → ⊥
-  no_stray n b a = lone-begins-none rows cause s x xs (lone.of-strays a).0 n b
+  no_stray n b a = lone-begins-none rows cause s x xs (lone.of_strays a).0 n b
 
   no-foreigner : (n : ℕ) → Begun rows text n → among foreigners x ≡ true → ⊥
-  no-foreigner n b a = lone-begins-none rows cause s x xs (lone.of-foreigners a).0 n b
+  no-foreigner n b a = lone-begins-none rows cause s x xs (lone.of_foreigners a).0 n b
 
   told-whole : (n : ℕ) → Whole rows text n → (k : ℕ) → Says n k ↔ (0 ≡ k)
   told-whole n w zero = (λ h. refl, λ e. w)
@@ -64,20 +64,20 @@ module _ (rows : List Row) (strays foreigners : List Range) (cause : ℕ → ℕ
     -- a lone element
     module _ (o : Lone rows text cause n c) where
       named : (among strays x ≡ true) ⊎ (among foreigners x ≡ true)
-      named = lone.no-others (begins-none-lone rows cause s x xs o.begins-none)
+      named = lone.no_others (begins-none-lone rows cause s x xs o.begins-none)
 
       one_or_two : (1 ≤ c) × (c ≤ 2)
-      one_or_two = ⊎_elim (λ a. omega (arith, o.own, (lone.of-strays a).1)) (λ a. omega (arith, o.own, (lone.of-foreigners a).1)) named
+      one_or_two = ⊎_elim (λ a. omega (arith, o.own, (lone.of_strays a).1)) (λ a. omega (arith, o.own, (lone.of_foreigners a).1)) named
 
       told_lone : (k : ℕ) → Says n k ↔ (c ≡ k)
       told_lone zero = (λ w. absurd (no_whole n w), λ e. absurd (omega (arith, e, one_or_two)))
       told_lone (suc zero) = (
-        λ h. o.own ∙ (lone.of-strays h.1).1,
-        λ e. (o.one, ⊎_elim (λ a. a) (λ a. absurd (omega (arith, e, o.own, (lone.of-foreigners a).1))) named),
+        λ h. o.own ∙ (lone.of_strays h.1).1,
+        λ e. (o.one, ⊎_elim (λ a. a) (λ a. absurd (omega (arith, e, o.own, (lone.of_foreigners a).1))) named),
       )
       told_lone (suc (suc zero)) = (
-        λ h. o.own ∙ (lone.of-foreigners h.1).1,
-        λ e. (o.one, ⊎_elim (λ a. absurd (omega (arith, e, o.own, (lone.of-strays a).1))) (λ a. a) named),
+        λ h. o.own ∙ (lone.of_foreigners h.1).1,
+        λ e. (o.one, ⊎_elim (λ a. absurd (omega (arith, e, o.own, (lone.of_strays a).1))) (λ a. a) named),
       )
       told_lone (suc (suc (suc k))) = (
         λ h. absurd (none-longer k h),

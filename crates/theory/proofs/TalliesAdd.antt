@@ -66,7 +66,7 @@ sets_append b i (v ∷ vs) ws = sets_append (set b i v) (suc i) vs ws ∙ rw add
 module _ {A E : Type 0} (enc : E → List A) (width room : ℕ) where
   pub store-append : (b : List A) (i : ℕ) (es fs : List E) → store enc width room b i (es ++ fs) ≡ store enc width room (store enc width room b i es) (i + length es) fs
   store-append b i [] fs = rw add-zero
-  store-append b i (e ∷ es) fs = store-append _ (suc i) es fs ∙ rw (add_swap i (length es))
+  store-append b i (e ∷ es) fs = store-append (cond (ltb i room) (sets b (width * i) (enc e)) b) (suc i) es fs ∙ rw (add_swap i (length es))
 
   -- A FULL LIST KEEPS ITS FIRST ENTRIES, and the rest of it is as it was
   pub store_is : ((e : E) → length (enc e) ≡ width) → (b : List A) (i : ℕ) (es : List E)
