@@ -1,5 +1,6 @@
 // UTF-8: the segment and the code point that stand first in a byte text.
 #![tactic(auto)]
+
 ghost use Rattle.std.specs.Prelude.{◌≡◌, ◌≤◌, ◌<◌, [], ◌∷◌, length, take};
 ghost use Rattle.terms.specs.Told.{told_first, first_says};
 ghost use Rattle.terms.specs.Form.{point_says};
