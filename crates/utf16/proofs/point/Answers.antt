@@ -1,0 +1,63 @@
+-- `point` meets its contract: each arm is a law of `Pointing`, and a whole segment is a unit or a pair.
+use mathlib.Core.Path.{◌≡◌}
+use native.Mathlib.Omega.{arith}
+use Rattle.terms.proofs.PointTold.{Pointed, says_of, point-nothing, point-whole, point-damage, point-begun}
+use Rattle.utf16.specs.Scalar.{utf16}
+use Rattle.utf16.proofs.RowsOfUnits.{FirstHalf, SecondHalf, units_division}
+use Rattle.utf16.proofs.ReaderTells.{whole_pair}
+use Rattle.utf16.proofs.point.Goals.{After-wide-y, In-Whole}
+use Rattle.utf16.proofs.point.Goals as goal
+
+-- a whole segment
+pointed : (c : In-Whole)
+    → Pointed utf16 c.args.text.now c.in-Whole.n
+pointed c =
+    point-whole utf16 units_division c.args.text.now _ c.segment.ensures _ c.in-Whole.is
+
+pub bounds-text-0 : goal.bounds-text-0
+bounds-text-0 c = let p = pointed (goal.at.bounds-text-0 c).In-Whole in omega (arith, p.some, p.inside)
+
+pub returns-then-n-eq1 : goal.returns-then-n-eq1
+returns-then-n-eq1 c = rw c.wide-x.ensures (says_of (pointed (goal.at.returns-then-n-eq1 c).In-Whole) 1 c.if-n-eq1.true)
+
+pub bounds-text-1 : goal.bounds-text-1
+bounds-text-1 c = let p = pointed (goal.at.bounds-text-1 c).In-Whole in omega (arith, p.some, p.inside)
+
+-- a pair
+halves : (c : After-wide-y)
+    → (c.in-Whole.n ≡ 2) × FirstHalf c.wide-x.result × SecondHalf c.wide-y.result
+halves c =
+    let pointed : Pointed utf16 c.args.text.now c.in-Whole.n = point-whole utf16 units_division c.args.text.now _ c.segment.ensures _ c.in-Whole.is in
+    let p = pointed in
+    rw (c.wide-x.ensures, c.wide-y.ensures) (whole_pair _ _ p (omega (arith, p.some)))
+
+pub overflow_sub-result : goal.overflow_sub-result
+overflow_sub-result c = omega (arith, halves c)
+
+pub overflow_mul-result : goal.overflow_mul-result
+overflow_mul-result c = omega (arith, halves c)
+
+pub overflow_add-result : goal.overflow_add-result
+overflow_add-result c = omega (arith, halves c)
+
+pub overflow_sub-result-in-Whole : goal.overflow_sub-result-in-Whole
+overflow_sub-result-in-Whole c = omega (arith, halves c)
+
+pub overflow_add-result-in-Whole : goal.overflow_add-result-in-Whole
+overflow_add-result-in-Whole c = omega (arith, halves c)
+
+pub returns-in-Nothing : goal.returns-in-Nothing
+returns-in-Nothing c =
+    point-nothing utf16 units_division c.args.text.now _ c.segment.ensures c.in-Nothing.is
+
+pub returns-else-n-eq1 : goal.returns-else-n-eq1
+returns-else-n-eq1 c =
+    rw (c.wide-x.ensures, c.wide-y.ensures) (says_of (pointed (goal.at.returns-else-n-eq1 c).In-Whole) 2 (halves c).0)
+
+pub returns-in-Damage : goal.returns-in-Damage
+returns-in-Damage c =
+    point-damage utf16 units_division c.args.text.now _ c.segment.ensures _ _ c.in-Damage.is
+
+pub returns-in-Begun : goal.returns-in-Begun
+returns-in-Begun c =
+    point-begun utf16 units_division c.args.text.now _ c.segment.ensures _ c.in-Begun.is
