@@ -1,18 +1,18 @@
 -- Many calls by one caller, over any decoder: the cutting of the text does not matter, and the state always passes its tests.
 use mathlib.Core.Path.{◌≡◌, refl, sym, ap, ◌∙◌}
 use Prim.Native.Nat.{ℕ, ◌+◌, ◌≤◌}
-use mathlib.Core.Bool.{Bool, true, false, cond, true≢false}
+use mathlib.Core.Bool.{Bool, true, cond, true≢false}
 use mathlib.Core.List.{List, [], ◌∷◌, ◌++◌}
 use lib.ListN.{length, get_or, take, drop, length-append}
 use lib.Seq.{take_at}
 use lib.Dec.{ltb}
 use borrow.Author.Tests.{ltb-false}
 use native.Mathlib.Omega.{arith}
-use Rattle.theory.specs.Reader.{cut, parts, pending}
+use Rattle.theory.specs.Reader.{cut, parts}
 use Rattle.theory.specs.Stream.{join, State, feed}
 use Rattle.theory.specs.Course.{Course, called}
 use Rattle.theory.specs.Table.{is_damage}
-use Rattle.theory.specs.Tally.{entries, Log}
+use Rattle.theory.specs.Tally.{Log}
 use Rattle.theory.proofs.AnyCalls.{course-keeps, Follows, follows-start, follows_next}
 use Rattle.theory.proofs.Cases.{split, either}
 use Rattle.theory.proofs.Divisions.{left-pending}

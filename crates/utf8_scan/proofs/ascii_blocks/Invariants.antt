@@ -1,0 +1,11 @@
+-- `ascii_blocks` meets its contract: each block reaches back to bytes below 0x80.
+use Prim.Native.Nat.{◌-◌}
+use lib.ListN.{length}
+use Rattle.utf8_scan.specs.Inside.Blocks.{Ascii}
+use Rattle.utf8_scan.proofs.ascii_blocks.Given as goal
+
+abbrev pub invariant-loop-at : goal.invariant-loop-at
+invariant-loop-at l = Ascii l.text l.at
+
+abbrev pub decreases-loop-at : goal.decreases-loop-at
+decreases-loop-at l = length l.text - l.at
