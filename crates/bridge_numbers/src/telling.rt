@@ -10,7 +10,7 @@ pub const ROOM: usize = 8;
 pub const PLACES: usize = 5;
 
 // What is said of an answer: so many of the numbers.
-#[derive(Drop)]
+#[derive(Clone, Copy)]
 pub struct Said {
     pub numbers: [usize; PLACES],
     pub count: usize,

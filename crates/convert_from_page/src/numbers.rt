@@ -9,7 +9,7 @@ ghost use Rattle.convert_point.specs.Inside.Passes.{PassesTo};
 ghost use Rattle.convert_from_page.specs.Inside.Store.{first_of, Stores};
 
 // How far a stride went: so many bytes are passed over, and so many places written.
-#[derive(Drop)]
+#[derive(Clone, Copy)]
 pub(crate) struct Reach {
     pub passed: usize,
     pub put: usize,

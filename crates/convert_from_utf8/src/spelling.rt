@@ -14,14 +14,14 @@ ghost use Rattle.convert_point.specs.Puts.{Puts};
 use terms::{Refusal, Written};
 
 // How far a stride or a step went: so many bytes are passed over, and so many places written.
-#[derive(Drop)]
+#[derive(Clone, Copy)]
 pub(crate) struct Reach {
     pub passed: usize,
     pub put: usize,
 }
 
 // A sequence that spells one unit, and how many bytes it has: 0 where none is taken.
-#[derive(Drop)]
+#[derive(Clone, Copy)]
 pub(crate) struct Sequence {
     pub unit: u16,
     pub size: usize,

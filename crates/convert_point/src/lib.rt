@@ -12,7 +12,7 @@ ghost use Rattle.convert_point.specs.Room.{places_each, most_of};
 use terms::Decoder;
 
 // The form that a text has, or into which it is converted.
-#[derive(Drop)]
+#[derive(Clone, Copy)]
 pub enum Target {
     Bytes,
     Units,

@@ -10,7 +10,7 @@ mod sixteen;
 pub use sixteen::put_sixteen;
 
 // How many units were read, and how many places they take.
-#[derive(Drop)]
+#[derive(Clone, Copy)]
 pub struct Part {
     pub read: usize,
     pub places: usize,

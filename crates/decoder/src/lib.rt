@@ -21,27 +21,27 @@ mod walk;
 pub use checks::is_sound;
 
 // The state of a start, and whether its room was refused.
-#[derive(Drop)]
+#[derive(Clone, Copy)]
 pub struct Started {
     pub answer: Opening,
     pub state: Decoder,
 }
 
-#[derive(Drop)]
+#[derive(Clone, Copy)]
 pub enum Opening {
     Ready,
     Refused(Refusal),
 }
 
 // What a feed answers, and the state then.
-#[derive(Drop)]
+#[derive(Clone, Copy)]
 pub struct Fed {
     pub answer: Written,
     pub state: Decoder,
 }
 
 // What finish answers: the places written and the totals of the text, or a refusal; and the state then.
-#[derive(Drop)]
+#[derive(Clone, Copy)]
 pub enum Total {
     Given {
         written: usize,
@@ -52,7 +52,7 @@ pub enum Total {
     Refused(Refusal),
 }
 
-#[derive(Drop)]
+#[derive(Clone, Copy)]
 pub struct Finished {
     pub answer: Total,
     pub state: Decoder,

@@ -11,7 +11,7 @@ ghost use Rattle.decoder.specs.Inside.Acting.{work, log_of, reached, Fits};
 use terms::First;
 
 // What is kept of the segments so far: bytes in whole segments and in damage, damages, and places written in the output.
-#[derive(Drop)]
+#[derive(Clone, Copy)]
 pub(crate) struct Tally {
     pub whole: usize,
     pub damaged: usize,

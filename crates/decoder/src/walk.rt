@@ -10,7 +10,7 @@ use terms::First;
 use utf8_check::Pace;
 
 // What the settled segments of a text did, and how many bytes they have.
-#[derive(Drop)]
+#[derive(Clone, Copy)]
 pub(crate) struct Settled {
     pub tally: Tally,
     pub size: usize,

@@ -23,7 +23,7 @@ mod form;
 mod tally;
 
 // The decoder of units: what it keeps between two pieces. The limits belong to it.
-#[derive(Drop)]
+#[derive(Clone, Copy)]
 pub struct UnitDecoder {
     // the pending unit, a first half, 0 where there is none; and how many there are
     pub held: [u16; UnitDecoder::PENDING],
@@ -66,21 +66,21 @@ impl UnitDecoder {
 }
 
 // The state of a start, and whether its room was refused.
-#[derive(Drop)]
+#[derive(Clone, Copy)]
 pub struct Started {
     pub answer: Opening,
     pub state: UnitDecoder,
 }
 
 // What a feed answers, and the state then.
-#[derive(Drop)]
+#[derive(Clone, Copy)]
 pub struct Fed {
     pub answer: Written,
     pub state: UnitDecoder,
 }
 
 // What finish answers, and the state then.
-#[derive(Drop)]
+#[derive(Clone, Copy)]
 pub struct Finished {
     pub answer: Total,
     pub state: UnitDecoder,

@@ -10,7 +10,7 @@ ghost use Rattle.decoder_from_utf16.specs.Inside.Tallying.{log_of};
 use terms::First;
 
 // What is kept of the segments so far: units in whole segments and in damage, and damages.
-#[derive(Drop)]
+#[derive(Clone, Copy)]
 pub(crate) struct Tally {
     pub whole: usize,
     pub damaged: usize,
@@ -18,7 +18,7 @@ pub(crate) struct Tally {
 }
 
 // What the settled segments of a text made of a tally, and how many units they have.
-#[derive(Drop)]
+#[derive(Clone, Copy)]
 pub(crate) struct Settled {
     pub tally: Tally,
     pub size: usize,

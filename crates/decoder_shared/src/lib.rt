@@ -7,7 +7,7 @@ ghost use Rattle.decoder_shared.specs.Checks.{admission, checks};
 use terms::{Decoder, Refusal};
 
 // May a state take a call?
-#[derive(Drop)]
+#[derive(Clone, Copy)]
 pub enum Admission {
     Granted,
     Refused(Refusal),

@@ -6,7 +6,7 @@ ghost use Rattle.decoder_watch.specs.Watching.{refusing, watching};
 use terms::{Decoder, Written};
 
 // The state after a byte, and the reply.
-#[derive(Drop)]
+#[derive(Clone, Copy)]
 pub struct Watched {
     pub state: Decoder,
     pub reply: u32,

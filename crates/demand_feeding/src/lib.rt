@@ -8,7 +8,7 @@ ghost use Rattle.demand_feeding.specs.Feeds as specs;
 use terms::{Decoder, Refusal};
 
 // At the end of a way: was all of the text granted, and then how many places are written, and the totals.
-#[derive(Drop)]
+#[derive(Clone, Copy)]
 pub struct Found {
     pub granted: bool,
     pub written: usize,

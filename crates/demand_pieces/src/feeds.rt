@@ -13,7 +13,7 @@ use demand_feeding::Found;
 use terms::{Decoder, Written};
 
 // So far: the decoder's state, where the next piece begins, and how many places are written.
-#[derive(Drop)]
+#[derive(Clone, Copy)]
 struct Gone {
     state: Decoder,
     from: usize,
@@ -21,7 +21,7 @@ struct Gone {
 }
 
 // A way through a text: what was found, and was every call refused that must be.
-#[derive(Drop)]
+#[derive(Clone, Copy)]
 pub(crate) struct Way {
     pub found: Found,
     pub refuses: bool,

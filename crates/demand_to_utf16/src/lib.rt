@@ -16,7 +16,7 @@ use demand_feeding::Found;
 use terms::{Decoder, Written};
 
 // So far: the decoder's state, where the next piece begins, and how many places are written.
-#[derive(Drop)]
+#[derive(Clone, Copy)]
 struct Gone {
     state: Decoder,
     from: usize,

@@ -4,7 +4,7 @@ ghost use Rattle.find.specs.Inside.Compared.{Apart, Rare, Passed};
 
 // Two indices of the needle whose bytes are looked for ahead; how many looks in a row passed over next to nothing; and for how many
 // comparisons looking then waits.
-#[derive(Drop)]
+#[derive(Clone, Copy)]
 pub(crate) struct Ahead {
     pub(crate) first: usize,
     pub(crate) second: usize,

@@ -4,7 +4,7 @@ ghost use Rattle.find.specs.Inside.Compared.{at};
 ghost use Rattle.find.specs.Inside.Cuts.{rank_of, ranked, Greatest, Cut};
 
 // Where a suffix of the needle starts, and its least period.
-#[derive(Drop)]
+#[derive(Clone, Copy)]
 struct Suffix {
     start: usize,
     period: usize,
@@ -12,7 +12,7 @@ struct Suffix {
 
 // A cut of the needle; how far the search goes on where the right part matches and the left does not; and how many bytes at the start
 // of the needle are then known to match.
-#[derive(Drop)]
+#[derive(Clone, Copy)]
 pub(crate) struct Plan {
     pub(crate) cut: usize,
     pub(crate) shift: usize,

@@ -16,7 +16,7 @@ mod rare;
 mod two_way;
 
 // What a search answers: the byte offset of the first match, that there is none, or why it was refused.
-#[derive(Drop)]
+#[derive(Clone, Copy)]
 pub enum Match {
     At(usize),
     Absent,

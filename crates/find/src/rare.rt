@@ -55,7 +55,7 @@ fn behind(needle: &[u8], k: usize) -> u8
 }
 
 // The two rarest indices so far, and how common their bytes are.
-#[derive(Drop)]
+#[derive(Clone, Copy)]
 struct Ranked {
     first: usize,
     second: usize,

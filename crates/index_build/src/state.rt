@@ -8,7 +8,7 @@ use place::Place;
 use terms::{Decoder, Refusal};
 
 // What the builder keeps between two pieces.
-#[derive(Drop)]
+#[derive(Clone, Copy)]
 pub struct Builder {
     // the pending bytes, unused ones 0, and how many there are
     pub held: [u8; Decoder::PENDING],
@@ -50,14 +50,14 @@ impl Builder {
 }
 
 // The answer of a call that builds.
-#[derive(Drop)]
+#[derive(Clone, Copy)]
 pub enum Building {
     Done,
     Refused(Refusal),
 }
 
 // What a call that builds answers, and the state then.
-#[derive(Drop)]
+#[derive(Clone, Copy)]
 pub struct Built {
     pub answer: Building,
     pub state: Builder,

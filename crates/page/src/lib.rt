@@ -6,7 +6,7 @@ ghost use Rattle.page.specs.Tables.{table_of};
 mod tables;
 
 // The pages that old carriages send.
-#[derive(Drop)]
+#[derive(Clone, Copy)]
 pub enum Page {
     Iso8859_1,
     Iso8859_5,

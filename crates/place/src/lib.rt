@@ -8,20 +8,20 @@ ghost use Rattle.place.specs.Walk.{number, measure, units_by_size, stepped_by, f
 use terms::{Decoder, Refusal};
 
 // Offsets in the four measures: none is passed for another.
-#[derive(Drop)]
+#[derive(Clone, Copy)]
 pub struct Bytes(pub usize);
 
-#[derive(Drop)]
+#[derive(Clone, Copy)]
 pub struct Units(pub usize);
 
-#[derive(Drop)]
+#[derive(Clone, Copy)]
 pub struct Points(pub usize);
 
-#[derive(Drop)]
+#[derive(Clone, Copy)]
 pub struct Lines(pub usize);
 
 // An offset in one of them.
-#[derive(Drop)]
+#[derive(Clone, Copy)]
 pub enum Offset {
     Byte(Bytes),
     Unit(Units),
@@ -56,7 +56,7 @@ impl Offset {
 }
 
 // A boundary with four counts of what lies before it.
-#[derive(Drop)]
+#[derive(Clone, Copy)]
 pub struct Place {
     pub bytes: usize,
     pub units: usize,
@@ -95,7 +95,7 @@ impl Place {
 }
 
 // The answer of a lookup.
-#[derive(Drop)]
+#[derive(Clone, Copy)]
 pub enum Placed {
     At(Place),
     Refused(Refusal),

@@ -9,7 +9,7 @@ use libc::{STDIN_FILENO, STDOUT_FILENO};
 use terms::{Decoder, Refusal, Written};
 
 // How the input stands: there may be more, or it ended in one way or another.
-#[derive(Drop)]
+#[derive(Clone, Copy)]
 pub enum End {
     More,
     Done,
@@ -18,7 +18,7 @@ pub enum End {
 }
 
 // That, and the decoder's state then.
-#[derive(Drop)]
+#[derive(Clone, Copy)]
 pub struct Taken {
     pub end: End,
     pub state: Decoder,

@@ -6,7 +6,7 @@ ghost use Rattle.terms.specs.Told.{size_of, cause_told, told_refusal, told_check
 
 // The decoder of a byte text that comes in pieces: what it keeps between two pieces. The limits belong to it.
 #[repr(C)]
-#[derive(Drop)]
+#[derive(Clone, Copy)]
 pub struct Decoder {
     // the pending bytes, unused ones 0, and how many there are
     pub held: [u8; Decoder::PENDING],
@@ -50,7 +50,7 @@ impl Decoder {
 
 // What stands first in a text: nothing, as it is empty; a whole segment of so many elements; damage of so many, and its cause; or damage
 // that ends the text and begins a well-formed sequence, so that more text could still make it whole.
-#[derive(Drop)]
+#[derive(Clone, Copy)]
 pub enum First {
     Nothing,
     Whole(usize),
@@ -95,14 +95,14 @@ impl First {
 
 // The code point that stands first in a text, U+FFFD for damage, and how many elements it takes; both are 0 where the text is
 // empty.
-#[derive(Drop)]
+#[derive(Clone, Copy)]
 pub struct Point {
     pub number: u32,
     pub size: usize,
 }
 
 // Why a call refuses, in the order of the numbers 1 to 10.
-#[derive(Drop)]
+#[derive(Clone, Copy)]
 pub enum Refusal {
     Damaged {
         start: usize,
@@ -219,7 +219,7 @@ impl Refusal {
 }
 
 // The answer of a strict check.
-#[derive(Drop)]
+#[derive(Clone, Copy)]
 pub enum Checked {
     WellFormed,
     Refused(Refusal),
@@ -239,7 +239,7 @@ impl Checked {
 }
 
 // The answer of a call that writes: how many places were written from the start of the output.
-#[derive(Drop)]
+#[derive(Clone, Copy)]
 pub enum Written {
     Count(usize),
     Refused(Refusal),

@@ -8,7 +8,7 @@ ghost use Rattle.utf8.specs.Inside.Lead.{wanted_next, laters, wanted, cause_in};
 use terms::First;
 
 // What a class tells of a first byte: no sequence begins with it, and the cause of that; or one does, and wants so many bytes more.
-#[derive(Drop)]
+#[derive(Clone, Copy)]
 pub enum Lead {
     Alone(u32),
     Begins(usize),

@@ -4,7 +4,7 @@ ghost use Rattle.std.specs.Prelude.{◌≡◌};
 ghost use Rattle.utf8_check.specs.Pace.{wait_behind, paced_run, pace_behind};
 
 // How many segments are still read one by one, and how many were to be read behind the last run.
-#[derive(Drop)]
+#[derive(Clone, Copy)]
 pub struct Pace {
     pub left: usize,
     pub wait: usize,

@@ -9,7 +9,7 @@ ghost use Rattle.utf8_count.specs.Counts.{start_of, four_of, sums_of};
 pub use lines::{end_first, line_ends};
 
 // How many bytes are no later bytes, and how many are 0xF0 or more.
-#[derive(Drop)]
+#[derive(Clone, Copy)]
 pub struct Sums {
     pub starts: usize,
     pub fours: usize,

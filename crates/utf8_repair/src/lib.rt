@@ -57,7 +57,7 @@ fn need_bytes(text: &[u8], run: usize) -> usize
 }
 
 // How far one segment led: so many bytes are passed over, and so many written.
-#[derive(Drop)]
+#[derive(Clone, Copy)]
 struct Mended {
     pub passed: usize,
     pub put: usize,
