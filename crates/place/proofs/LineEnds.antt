@@ -1,6 +1,6 @@
 -- A LINE ENDS after 0A, after 0D unless 0A follows, after C2 85, E2 80 A8 and E2 80 A9, wherever these bytes stand, and nowhere else:
 -- the lines of a place are those that end before it. Such a segment is whole: no line ends in damage.
-use Rattle.std.proofs.Common.{◌≡◌, ℕ, zero, suc, ◌+◌, ◌-◌, ◌<◌, ◌≤◌, true, false, cond, not, ◌&&◌, ◌||◌, eqb, List, [], ◌∷◌, ◌++◌, length, get_or, take, drop, sym, refl, ap, ◌∙◌, subst, ⊎_elim, true≢false, arith, length-drop, take-append-drop, length-take-le, ne_eqb, eqb-true}
+use Rattle.std.proofs.Common.{◌≡◌, ℕ, zero, suc, ◌+◌, ◌<◌, ◌≤◌, true, false, cond, not, ◌&&◌, ◌||◌, eqb, List, [], ◌∷◌, ◌++◌, length, get_or, take, drop, sym, refl, ap, ◌∙◌, subst, ⊎_elim, true≢false, arith, length-drop, take-append-drop, length-take-le, ne_eqb, eqb-true}
 use Rattle.theory.specs.Reader.{Look, body, first, rest}
 use Rattle.theory.specs.Table.{◌to◌, within, Kind, whole, damage}
 use Rattle.theory.specs.Tally.{size}

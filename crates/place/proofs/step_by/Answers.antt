@@ -12,5 +12,5 @@ pub returns : goal.returns
 returns c =
     let a = c.args in
     let h = added (by_classes a.classes.now) (classes_division a.classes.now) a.p a.rest.now a.ends (omega (arith, c.if-rest-eq0.false)) c.segment_by.result c.segment_by.ensures in
-    rw (c.wrapping_add_usize.ensures, c.wrapping_add_usize-2.ensures, c.units_of.ensures)
-    (rw (c.wrapping_add_usize-3.ensures, c.wrapping_add_usize-4.ensures) (h c.size-size.result c.size-size.ensures))
+    rw (c.wrapping_add_usize.ensures.value, c.wrapping_add_usize-2.ensures.value, c.units_of.ensures)
+    (rw (c.wrapping_add_usize-3.ensures.value, c.wrapping_add_usize-4.ensures.value) (h c.size-size.result c.size-size.ensures))
