@@ -1,0 +1,164 @@
+-- `walk::walk_on` meets its contract: so much has acted, and what is settled of the rest is still to act.
+use Prim.Native.Nat.{ℕ, ◌+◌, ◌≤◌}
+use mathlib.Core.Path.{◌≡◌, refl, sym, ap, subst, ◌∙◌}
+use mathlib.Core.List.{List}
+use lib.ListN.{length, take, drop}
+use native.Mathlib.Omega.{arith}
+use Rattle.terms.specs.Limits.{limit}
+use Rattle.terms.specs.Told.{told_first, first_says}
+use Rattle.terms.proofs.WalkBySegments.{part_is}
+use Rattle.terms.proofs.WalkWrites.{lent, lent_both, lent-less}
+use Rattle.utf8.specs.Bytes.{bytes}
+use Rattle.utf8.specs.Classes.{classes}
+use Rattle.utf8.proofs.ClassesRead.{table, by-table}
+use Rattle.utf8_check.proofs.RunDivides.{Run, run_long}
+use Rattle.utf8_check.proofs.RunsPassed.{run_paced}
+use Rattle.decoder.specs.Inside.Acting.{Work, work, log_of, reached, passed}
+use Rattle.decoder.proofs.SettledByReader.{Told, told, stands}
+use Rattle.decoder.proofs.SettledWalk.{told-turn, run-turn, run_fits, run-acted, turn-ready}
+use Rattle.decoder.proofs.SettledWalk.{Walked, walked_start, walked_next, walked_end}
+use Rattle.decoder.proofs.walk.walk_on.Goals.{After-act-tally, After-paced_run-run, After-pass-tally, After-segment_by-seg, After-settled_size-size, At-loop-pace}
+use Rattle.decoder.proofs.walk.walk_on.Goals as goal
+
+pub loop-pace-init : goal.loop-pace-init
+loop-pace-init c =
+    let a = c.args in
+    (refl, refl, walked_start a.room a.text.now (work a.tally a.out.now a.list.now) c.requires)
+
+abbrev entry : (c : At-loop-pace)
+    → Work
+entry c = let a = c.args in work a.tally a.out.now a.list.now
+
+-- what was told of the rest of the text
+says : (c : After-segment_by-seg) → told_first c.segment_by-seg.result ≡ first_says bytes c.loop-pace.rest.now
+unfolding classes table
+says c = c.segment_by-seg.ensures ∙ ap (λ look. first_says look c.loop-pace.rest.now) by-table
+
+seen : (c : After-segment_by-seg) → Told c.segment_by-seg.result c.loop-pace.rest.now
+seen c = told c.segment_by-seg.result c.loop-pace.rest.now (says c)
+
+pub shape_of-out-then-size-eq0 : goal.shape_of-out-then-size-eq0
+shape_of-out-then-size-eq0 c = c.loop-pace.invariant.0
+
+pub shape_of-list-then-size-eq0 : goal.shape_of-list-then-size-eq0
+shape_of-list-then-size-eq0 c = c.loop-pace.invariant.1
+
+pub returns-then-size-eq0 : goal.returns-then-size-eq0
+returns-then-size-eq0 c =
+    walked_end c.args.room c.args.text.now (entry (goal.at.returns-then-size-eq0 c).At-loop-pace) c.loop-pace.invariant.2 (seen (goal.at.returns-then-size-eq0 c).After-segment_by-seg) (sym c.settled_size-size.ensures ∙ c.if-size-eq0.true)
+
+pub act-tally-requires : goal.act-tally-requires
+act-tally-requires c =
+    let rest = c.loop-pace.rest.now in (
+      stands c.segment_by-seg.result rest (says (goal.at.act-tally-requires c).After-segment_by-seg),
+      turn-ready c.args.room rest (work c.loop-pace.tally c.loop-pace.out c.loop-pace.list) c.loop-pace.invariant.2.ready (told-turn rest (seen (goal.at.act-tally-requires c).After-segment_by-seg)),
+    )
+
+-- what lies behind the segment
+abbrev left : (c : After-settled_size-size)
+    → List ℕ
+left c = drop c.settled_size-size.result c.loop-pace.rest.now
+
+-- it has acted
+abbrev mid : (c : After-act-tally)
+    → Work
+mid c = work c.act-tally.result c.act-tally.new.out c.act-tally.new.list
+
+acted-on : (c : After-act-tally)
+    → let entry : Work = let a = c.args in work a.tally a.out.now a.list.now in let left : List ℕ = drop c.settled_size-size.result c.loop-pace.rest.now in
+    Walked c.args.room c.args.text.now entry left (mid c)
+unfolding classes table
+acted-on c =
+    let entry : Work = let a = c.args in work a.tally a.out.now a.list.now in
+    let says : told_first c.segment_by-seg.result ≡ first_says bytes c.loop-pace.rest.now = c.segment_by-seg.ensures ∙ ap (λ look. first_says look c.loop-pace.rest.now) by-table in
+    let seen : Told c.segment_by-seg.result c.loop-pace.rest.now = told c.segment_by-seg.result c.loop-pace.rest.now says in
+    rw c.settled_size-size.ensures
+    (walked_next c.args.room c.args.text.now entry c.loop-pace.invariant.2 (told-turn c.loop-pace.rest.now seen) (mid c)
+    (rw seen.settled_is at c.act-tally.ensures))
+
+inside : (c : After-settled_size-size) → c.settled_size-size.result ≤ length c.loop-pace.rest.now
+unfolding classes table
+inside c =
+    let says : told_first c.segment_by-seg.result ≡ first_says bytes c.loop-pace.rest.now = c.segment_by-seg.ensures ∙ ap (λ look. first_says look c.loop-pace.rest.now) by-table in
+    let seen : Told c.segment_by-seg.result c.loop-pace.rest.now = told c.segment_by-seg.result c.loop-pace.rest.now says in
+    rw c.settled_size-size.ensures (told-turn c.loop-pace.rest.now seen).inside
+
+pub slice_bounds-behind-count : goal.slice_bounds-behind-count
+slice_bounds-behind-count c = inside (goal.at.slice_bounds-behind-count c).After-settled_size-size
+
+pub slice_bounds-behind-start : goal.slice_bounds-behind-start
+slice_bounds-behind-start c = inside (goal.at.slice_bounds-behind-start c).After-settled_size-size
+
+-- the run stands there
+next : (c : After-paced_run-run)
+    → let left : List ℕ = drop c.settled_size-size.result c.loop-pace.rest.now in
+    Run left c.paced_run-run.result
+next c =
+    let left : List ℕ = drop c.settled_size-size.result c.loop-pace.rest.now in
+    run_paced left _ c.paced_run-run.result (rw (part_is c.loop-pace.rest.now c.settled_size-size.result) at c.paced_run-run.ensures)
+
+-- as the code cuts it off
+cut_off : (c : After-paced_run-run)
+    → let left : List ℕ = drop c.settled_size-size.result c.loop-pace.rest.now in
+    left ≡ lent c.loop-pace.rest.now c.settled_size-size.result
+cut_off c = sym (part_is c.loop-pace.rest.now c.settled_size-size.result)
+
+pub slice_bounds-pass-end : goal.slice_bounds-pass-end
+slice_bounds-pass-end c =
+    let n = c.paced_run-run.result in
+    subst (λ (xs : List ℕ). n ≡ length (take n xs)) (cut_off c) (sym (run_long (left (goal.at.slice_bounds-pass-end c).After-settled_size-size) n (next c)))
+
+pub pass-tally-requires : goal.pass-tally-requires
+pass-tally-requires c =
+    let n = c.paced_run-run.result in
+    let room = c.args.room in
+    subst (λ (xs : List ℕ). (c.act-tally.result.written + length (take n xs) ≤ length c.act-tally.new.out) × (c.act-tally.result.whole + length (take n xs) ≤ limit)) (cut_off (goal.at.pass-tally-requires c).After-paced_run-run)
+    (run_fits (left (goal.at.pass-tally-requires c).After-settled_size-size) n (next (goal.at.pass-tally-requires c).After-paced_run-run) room (mid (goal.at.pass-tally-requires c).After-act-tally) (turn-ready room (left (goal.at.pass-tally-requires c).After-settled_size-size) (mid (goal.at.pass-tally-requires c).After-act-tally) (acted-on (goal.at.pass-tally-requires c).After-act-tally).ready (run-turn (left (goal.at.pass-tally-requires c).After-settled_size-size) n (next (goal.at.pass-tally-requires c).After-paced_run-run))))
+
+ran : (c : After-pass-tally)
+    → let entry : Work = let a = c.args in work a.tally a.out.now a.list.now in let left : List ℕ = drop c.settled_size-size.result c.loop-pace.rest.now in
+    Walked c.args.room c.args.text.now entry (drop c.paced_run-run.result left)
+    (work c.pass-tally.result c.pass-tally.new.out c.act-tally.new.list)
+unfolding classes table
+ran c =
+    let left : List ℕ = drop c.settled_size-size.result c.loop-pace.rest.now in
+    let mid : Work = work c.act-tally.result c.act-tally.new.out c.act-tally.new.list in
+    let cut_off : left ≡ lent c.loop-pace.rest.now c.settled_size-size.result = sym (part_is c.loop-pace.rest.now c.settled_size-size.result) in
+    let entry : Work = let a = c.args in work a.tally a.out.now a.list.now in
+    let says : told_first c.segment_by-seg.result ≡ first_says bytes c.loop-pace.rest.now = c.segment_by-seg.ensures ∙ ap (λ look. first_says look c.loop-pace.rest.now) by-table in
+    let seen : Told c.segment_by-seg.result c.loop-pace.rest.now = told c.segment_by-seg.result c.loop-pace.rest.now says in
+    let acted-on : Walked c.args.room c.args.text.now entry left mid = rw c.settled_size-size.ensures
+    (walked_next c.args.room c.args.text.now entry c.loop-pace.invariant.2 (told-turn c.loop-pace.rest.now seen) mid
+    (rw seen.settled_is at c.act-tally.ensures)) in
+    let next : Run left c.paced_run-run.result = run_paced left _ c.paced_run-run.result (rw (part_is c.loop-pace.rest.now c.settled_size-size.result) at c.paced_run-run.ensures) in
+    let n = c.paced_run-run.result in
+    let list = c.act-tally.new.list in
+    let v = work c.pass-tally.result c.pass-tally.new.out list in
+    let e : v ≡ reached c.act-tally.new.out (passed (take n left) (log_of mid))
+    = subst (λ (xs : List ℕ). v ≡ reached c.act-tally.new.out (passed (take n xs) (log_of mid))) (sym cut_off) (c.pass-tally.ensures list) in
+    walked_next c.args.room c.args.text.now entry acted-on (run-turn left n next) v
+    (run-acted left n next c.args.room mid v e)
+
+ends : (c : After-paced_run-run)
+    → c.paced_run-run.result ≤ length (lent c.loop-pace.rest.now c.settled_size-size.result)
+ends c = subst (λ (xs : List ℕ). c.paced_run-run.result ≤ length xs) (cut_off c) (next c).inside
+
+pub slice_bounds-rest-count : goal.slice_bounds-rest-count
+slice_bounds-rest-count c = ends (goal.at.slice_bounds-rest-count c).After-paced_run-run
+
+pub slice_bounds-rest-start : goal.slice_bounds-rest-start
+slice_bounds-rest-start c = ends (goal.at.slice_bounds-rest-start c).After-paced_run-run
+
+pub loop-pace-smaller : goal.loop-pace-smaller
+loop-pace-smaller c =
+    lent-less c.loop-pace.rest.now c.settled_size-size.result c.paced_run-run.result (inside (goal.at.loop-pace-smaller c).After-settled_size-size)
+    (omega (arith, c.if-size-eq0.false))
+
+pub loop-pace-preserved : goal.loop-pace-preserved
+loop-pace-preserved c =
+    let v = work c.pass-tally.result c.pass-tally.new.out c.act-tally.new.list in (
+      c.pass-tally.auto.out ∙ c.act-tally.auto.out ∙ c.loop-pace.invariant.0,
+      c.act-tally.auto.list ∙ c.loop-pace.invariant.1,
+      subst (λ (rest : List ℕ). Walked c.args.room c.args.text.now (entry (goal.at.loop-pace-preserved c).At-loop-pace) rest v)
+          (sym (lent_both c.loop-pace.rest.now c.settled_size-size.result c.paced_run-run.result)) (ran (goal.at.loop-pace-preserved c).After-pass-tally),
+    )
