@@ -1,7 +1,7 @@
 -- A MATCH OF A NON-EMPTY NEEDLE BEGINS AND ENDS AT BOUNDARIES of the entry, damaged or not.
 use mathlib.Core.Path.{◌≡◌, refl, sym, ap, ◌∙◌}
 use Prim.Native.Nat.{ℕ, ◌+◌, ◌<◌}
-use mathlib.Core.Bool.{true, false, true≢false}
+use mathlib.Core.Bool.{false, true≢false}
 use mathlib.Core.List.{List, [], ◌∷◌, ◌++◌, append_assoc}
 use mathlib.Core.Option.{some}
 use lib.ListN.{length, take, drop, take-append-drop}
