@@ -1,0 +1,13 @@
+-- What is counted, and what the rest of the text takes, is the need.
+use Prim.Native.Nat.{◌-◌, ◌*◌, ◌≤◌}
+use lib.ListN.{length}
+use Rattle.terms.proofs.WalkWrites.{Counted}
+use Rattle.utf16.specs.Scalar.{utf16}
+use Rattle.convert_point.specs.Target.{form_of}
+use Rattle.convert_from_utf16.proofs.need.Given as goal
+
+abbrev pub invariant-loop-at : goal.invariant-loop-at
+invariant-loop-at l = Counted utf16 (form_of l.target) l.text l.at l.total × (l.total ≤ 4 * l.at)
+
+abbrev pub decreases-loop-at : goal.decreases-loop-at
+decreases-loop-at l = length l.text - l.at
