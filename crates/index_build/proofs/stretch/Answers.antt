@@ -1,0 +1,79 @@
+-- `stretch` meets its contract: the stream behind the text is that behind the rest, from the place reached.
+use Prim.Native.Nat.{◌+◌}
+use mathlib.Core.Path.{◌≡◌, sym, subst, ◌∙◌}
+use lib.ListN.{drop}
+use native.Mathlib.Omega.{arith}
+use Rattle.theory.specs.Tally.{total, size}
+use Rattle.terms.proofs.WalkBySegments.{part_is}
+use Rattle.utf8_pending.specs.Tail.{first_settled}
+use Rattle.utf8_count.specs.Counts.{end_first}
+use Rattle.place.specs.Measures.{reader}
+use Rattle.index_build.specs.Inside.Steps.{Walked}
+use Rattle.index_build.proofs.LoneReturn.{told-settled}
+use Rattle.index_build.proofs.StreamBehindWalk.{walked_start, walked-ahead, walked_next, walked-stretched}
+use borrow.Author.Rules.{rules}
+use Rattle.index_build.proofs.stretch.Goals.{After-advance-p, After-end_first, After-settled_by-size, Else-size-eq0}
+use Rattle.index_build.proofs.stretch.Goals as goal
+
+pub loop-left-init : goal.loop-left-init
+loop-left-init c =
+    (walked_start c.args.text.now c.args.from c.args.row.now c.requires.stretches.walks, λ e. search rules)
+
+-- how many bytes are settled there
+size_is : (c : After-settled_by-size)
+    → c.settled_by-size.result ≡ total size (first_settled reader (drop c.loop-left.at c.args.text.now))
+size_is c =
+    (rw part_is at c.settled_by-size.ensures)
+    ∙ told-settled c.segment_by.result (drop c.loop-left.at c.args.text.now) (rw (part_is, c.requires.classes_value) at c.segment_by.ensures)
+
+pub shape_of-row-then-size-eq0 : goal.shape_of-row-then-size-eq0
+shape_of-row-then-size-eq0 c = c.loop-left.invariant.0.long
+
+pub returns-then-size-eq0 : goal.returns-then-size-eq0
+returns-then-size-eq0 c =
+    walked-stretched c.args.text.now c.args.from c.args.row.now c.loop-left.invariant.0
+    (λ e. subst (λ k. total size (first_settled reader (drop k c.args.text.now)) ≡ 0) e (sym (size_is (goal.at.returns-then-size-eq0 c).After-settled_by-size) ∙ c.if-size-eq0.true))
+
+some : (c : Else-size-eq0)
+    → total size (first_settled reader (drop c.loop-left.at c.args.text.now)) ≡ 0 → ⊥
+some c n =
+    let size_is : c.settled_by-size.result ≡ total size (first_settled reader (drop c.loop-left.at c.args.text.now)) = (rw part_is at c.settled_by-size.ensures)
+    ∙ told-settled c.segment_by.result (drop c.loop-left.at c.args.text.now) (rw (part_is, c.requires.classes_value) at c.segment_by.ensures) in
+    c.if-size-eq0.false (size_is ∙ n)
+
+-- whether a line ends behind them
+ends : (c : After-end_first)
+    → c.end_first.result ≡ end_first (drop c.loop-left.at c.args.text.now)
+ends c = rw part_is at c.end_first.ensures
+
+pub advance-p-requires : goal.advance-p-requires
+advance-p-requires c =
+    rw (size_is (goal.at.advance-p-requires c).After-settled_by-size)
+    (walked-ahead c.args.text.now c.args.from c.args.row.now c.requires.stretches.walks c.loop-left.invariant.0 (some (goal.at.advance-p-requires c).Else-size-eq0) (ends (goal.at.advance-p-requires c).After-end_first))
+
+-- behind the segment
+turned : (c : After-advance-p)
+    → Walked c.args.text.now c.args.from c.args.row.now
+    c.advance-p.new.row c.advance-p.result (c.loop-left.at + c.settled_by-size.result)
+turned c =
+    let size_is : c.settled_by-size.result ≡ total size (first_settled reader (drop c.loop-left.at c.args.text.now)) = (rw part_is at c.settled_by-size.ensures)
+    ∙ told-settled c.segment_by.result (drop c.loop-left.at c.args.text.now) (rw (part_is, c.requires.classes_value) at c.segment_by.ensures) in
+    let some : total size (first_settled reader (drop c.loop-left.at c.args.text.now)) ≡ 0 → ⊥ = λ n. c.if-size-eq0.false (size_is ∙ n) in
+    let ends : c.end_first.result ≡ end_first (drop c.loop-left.at c.args.text.now) = rw part_is at c.end_first.ensures in
+    rw size_is
+    (walked_next c.args.text.now c.args.from c.args.row.now c.requires.stretches.walks c.loop-left.invariant.0 some ends
+    (rw size_is at c.advance-p.ensures))
+
+pub overflow_add-at : goal.overflow_add-at
+overflow_add-at c = let t = turned (goal.at.overflow_add-at c).After-advance-p in omega (arith, t.inside)
+
+pub loop-left-preserved : goal.loop-left-preserved
+loop-left-preserved c = (turned (goal.at.loop-left-preserved c).After-advance-p, λ e. absurd (c.if-size-eq0.false (omega arith)))
+
+pub shape_of-row : goal.shape_of-row
+shape_of-row c = c.loop-left.invariant.0.long
+
+pub returns : goal.returns
+returns c =
+    walked-stretched c.args.text.now c.args.from c.args.row.now c.loop-left.invariant.0
+    (λ e. absurd (omega (arith, c.loop-left.invariant.1 e, c.requires.stretches.some, c.loop-left-test.false)))
