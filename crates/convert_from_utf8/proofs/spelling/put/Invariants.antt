@@ -1,0 +1,11 @@
+-- What is written, and what the rest of the text spells, is the whole.
+use Prim.Native.Nat.{◌-◌}
+use lib.ListN.{length}
+use Rattle.convert_from_utf8.proofs.StridesWalk.{Walked}
+use Rattle.convert_from_utf8.proofs.spelling.put.Given as goal
+
+abbrev pub invariant-loop-at : goal.invariant-loop-at
+invariant-loop-at l = Walked l.text l.initial.out l.out l.at l.done
+
+abbrev pub decreases-loop-at : goal.decreases-loop-at
+decreases-loop-at l = length l.text - l.at

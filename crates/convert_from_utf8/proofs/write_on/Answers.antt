@@ -1,0 +1,181 @@
+-- What is written, and what the rest of the text writes, is the form.
+use mathlib.Core.Path.{refl, sym}
+use Prim.Native.Nat.{◌+◌, ◌≤◌}
+use lib.ListN.{length, take}
+use lib.Seq.{length-take-le}
+use native.Mathlib.Omega.{arith}
+use Rattle.terms.proofs.WalkWrites.{Met, Passed, left, back, Wrote, wrote-start, wrote-end, lent, lent-long, lent-there}
+use Rattle.utf8.specs.Classes.{classes}
+use Rattle.utf8.specs.Scalar.{utf8}
+use Rattle.utf8.proofs.ClassesRead.{table, by-table}
+use Rattle.utf8_check.proofs.RunDivides.{Run}
+use Rattle.utf8_check.proofs.RunsPassed.{run_paced}
+use Rattle.utf16.specs.Scalar.{utf16}
+use Rattle.convert_point.proofs.PointWritten.{wrote-put}
+use Rattle.convert_from_utf8.specs.Inside.Spell.{spelled}
+use Rattle.convert_from_utf8.proofs.RunsSpelled.{part-long, part_end, met-there, passed-spelled, room-on, wrote_on}
+use borrow.Author.Rules.{rules}
+use Rattle.convert_from_utf8.proofs.write_on.Goals.{After-paced_run-run, After-point_by-p, After-put_units-done, After-spell_run-done}
+use Rattle.convert_from_utf8.proofs.write_on.Goals as goal
+
+pub loop-rest-init : goal.loop-rest-init
+unfolding classes table
+loop-rest-init c =
+    let a = c.args in
+    record { reads = by-table; at = 0; rest-is = refl; wrote = wrote-start utf8 utf16 a.text.now a.out.now }
+
+-- the code point that was read
+here : (c : After-point_by-p)
+    → Met utf8 c.args.text.now c.loop-rest.invariant.at c.point_by-p.result.size c.point_by-p.result.number
+unfolding classes table
+here c =
+    met-there c.args.text.now c.loop-rest.rest.now c.loop-rest.invariant.at c.loop-rest.invariant.rest-is _ c.loop-rest.invariant.reads c.loop-rest-test.true _ _ c.point_by-p.ensures
+
+-- it ends within the rest
+ends : (c : After-point_by-p) → c.point_by-p.result.size ≤ length c.loop-rest.rest.now
+ends c =
+    omega (arith, part-long c.args.text.now c.loop-rest.rest.now c.loop-rest.invariant.at c.loop-rest.invariant.rest-is, (here c).inside)
+
+pub offset_bounds-out-done : goal.offset_bounds-out-done
+offset_bounds-out-done c = let w = c.loop-rest.invariant.wrote in omega (arith, w.within, w.long, c.well_formed)
+
+pub slice_bounds-put_units-count : goal.slice_bounds-put_units-count
+slice_bounds-put_units-count c = let w = c.loop-rest.invariant.wrote in let i = w.within in let j = w.long in search rules
+
+pub slice_bounds-put_units-start : goal.slice_bounds-put_units-start
+slice_bounds-put_units-start c = let w = c.loop-rest.invariant.wrote in let i = w.within in let j = w.long in search rules
+
+pub slice_bounds-put_units-end : goal.slice_bounds-put_units-end
+slice_bounds-put_units-end c = let w = c.loop-rest.invariant.wrote in let i = w.within in let j = w.long in search rules
+
+-- what is written behind it
+next : (c : After-put_units-done)
+    → let a = c.args in
+    Wrote utf8 utf16 a.text.now a.out.now (back c.loop-rest.out c.loop-rest.done c.put_units-done.new.out)
+    (c.loop-rest.invariant.at + c.point_by-p.result.size) (c.loop-rest.done + c.put_units-done.result)
+unfolding classes table
+next c =
+    let here : Met utf8 c.args.text.now c.loop-rest.invariant.at c.point_by-p.result.size c.point_by-p.result.number = met-there c.args.text.now c.loop-rest.rest.now c.loop-rest.invariant.at c.loop-rest.invariant.rest-is _ c.loop-rest.invariant.reads c.loop-rest-test.true _ _ c.point_by-p.ensures in
+    wrote-put utf8 utf16 c.args.text.now c.args.out.now c.loop-rest.out c.loop-rest.invariant.at c.loop-rest.done
+    c.loop-rest.invariant.wrote c.requires _ _ here c.put_units-done.new.out c.put_units-done.result c.put_units-done.ensures
+
+pub overflow_add-done : goal.overflow_add-done
+overflow_add-done c =
+    omega (arith, (next (goal.at.overflow_add-done c).After-put_units-done).within, c.well_formed)
+
+pub slice_bounds-behind-count : goal.slice_bounds-behind-count
+slice_bounds-behind-count c = ends (goal.at.slice_bounds-behind-count c).After-point_by-p
+
+pub slice_bounds-behind-start : goal.slice_bounds-behind-start
+slice_bounds-behind-start c = let e = ends (goal.at.slice_bounds-behind-start c).After-point_by-p in search rules
+
+pub slice_bounds-behind-end : goal.slice_bounds-behind-end
+slice_bounds-behind-end c = let e = ends (goal.at.slice_bounds-behind-end c).After-point_by-p in search rules
+
+-- the run behind it
+ran : (c : After-paced_run-run)
+    → Run (lent c.loop-rest.rest.now c.point_by-p.result.size) c.paced_run-run.result
+ran c =
+    run_paced (lent c.loop-rest.rest.now c.point_by-p.result.size) c.loop-rest.pace c.paced_run-run.result c.paced_run-run.ensures
+
+pub slice_bounds-spell_run-end : goal.slice_bounds-spell_run-end
+slice_bounds-spell_run-end c =
+    sym (length-take-le c.paced_run-run.result (lent c.loop-rest.rest.now c.point_by-p.result.size) (ran c).inside)
+
+pub offset_bounds-out-done-in-loop-rest : goal.offset_bounds-out-done-in-loop-rest
+offset_bounds-out-done-in-loop-rest c =
+    let w = next (goal.at.offset_bounds-out-done-in-loop-rest c).After-put_units-done in
+    omega (arith, w.within, w.long, c.well_formed)
+
+pub slice_bounds-spell_run-count : goal.slice_bounds-spell_run-count
+slice_bounds-spell_run-count c =
+    let w = next (goal.at.slice_bounds-spell_run-count c).After-put_units-done in let i = w.within in let j = w.long in search rules
+
+pub slice_bounds-spell_run-start : goal.slice_bounds-spell_run-start
+slice_bounds-spell_run-start c =
+    let w = next (goal.at.slice_bounds-spell_run-start c).After-put_units-done in let i = w.within in let j = w.long in search rules
+
+pub slice_bounds-spell_run-end-in-loop-rest : goal.slice_bounds-spell_run-end-in-loop-rest
+slice_bounds-spell_run-end-in-loop-rest c =
+    let w = next (goal.at.slice_bounds-spell_run-end-in-loop-rest c).After-put_units-done in let i = w.within in let j = w.long in search rules
+
+passes : (c : After-paced_run-run)
+    → let text = c.args.text.now in
+    let size = c.point_by-p.result.size in
+    Passed (left utf8 utf16 text) (length text) (c.loop-rest.invariant.at + size) c.paced_run-run.result (spelled (take c.paced_run-run.result (lent c.loop-rest.rest.now size)))
+unfolding classes table
+passes c =
+    let here : Met utf8 c.args.text.now c.loop-rest.invariant.at c.point_by-p.result.size c.point_by-p.result.number = met-there c.args.text.now c.loop-rest.rest.now c.loop-rest.invariant.at c.loop-rest.invariant.rest-is _ c.loop-rest.invariant.reads c.loop-rest-test.true _ _ c.point_by-p.ensures in
+    let v = c.loop-rest.invariant in
+    let text = c.args.text.now in
+    let size = c.point_by-p.result.size in
+    passed-spelled text (lent c.loop-rest.rest.now size) (v.at + size) (lent-there text c.loop-rest.rest.now v.at v.rest-is size) here.inside c.paced_run-run.result (ran c)
+
+pub spell_run-done-requires : goal.spell_run-done-requires
+spell_run-done-requires c =
+    room-on c.args.text.now _ _ _ (passes (goal.at.spell_run-done-requires c).After-paced_run-run) c.args.out.now (back c.loop-rest.out c.loop-rest.done c.put_units-done.new.out) (c.loop-rest.done + c.put_units-done.result) (next (goal.at.spell_run-done-requires c).After-put_units-done) c.requires
+
+-- and what is written behind that
+after : (c : After-spell_run-done)
+    → let a = c.args in
+    Wrote utf8 utf16 a.text.now a.out.now
+    (back (back c.loop-rest.out c.loop-rest.done c.put_units-done.new.out) (c.loop-rest.done + c.put_units-done.result) c.spell_run-done.new.out)
+    (c.loop-rest.invariant.at + c.point_by-p.result.size + c.paced_run-run.result) (c.loop-rest.done + c.put_units-done.result + c.spell_run-done.result)
+unfolding classes table
+after c =
+    let here : Met utf8 c.args.text.now c.loop-rest.invariant.at c.point_by-p.result.size c.point_by-p.result.number = met-there c.args.text.now c.loop-rest.rest.now c.loop-rest.invariant.at c.loop-rest.invariant.rest-is _ c.loop-rest.invariant.reads c.loop-rest-test.true _ _ c.point_by-p.ensures in
+    let ran : Run (lent c.loop-rest.rest.now c.point_by-p.result.size) c.paced_run-run.result = run_paced (lent c.loop-rest.rest.now c.point_by-p.result.size) c.loop-rest.pace c.paced_run-run.result c.paced_run-run.ensures in
+    let passes : let text = c.args.text.now in
+    let size = c.point_by-p.result.size in
+    Passed (left utf8 utf16 text) (length text) (c.loop-rest.invariant.at + size) c.paced_run-run.result (spelled (take c.paced_run-run.result (lent c.loop-rest.rest.now size))) = let v = c.loop-rest.invariant in
+    let text = c.args.text.now in
+    let size = c.point_by-p.result.size in
+    passed-spelled text (lent c.loop-rest.rest.now size) (v.at + size) (lent-there text c.loop-rest.rest.now v.at v.rest-is size) here.inside c.paced_run-run.result ran in
+    let next : let a = c.args in
+    Wrote utf8 utf16 a.text.now a.out.now (back c.loop-rest.out c.loop-rest.done c.put_units-done.new.out)
+    (c.loop-rest.invariant.at + c.point_by-p.result.size) (c.loop-rest.done + c.put_units-done.result) = wrote-put utf8 utf16 c.args.text.now c.args.out.now c.loop-rest.out c.loop-rest.invariant.at c.loop-rest.done
+    c.loop-rest.invariant.wrote c.requires _ _ here c.put_units-done.new.out c.put_units-done.result c.put_units-done.ensures in
+    wrote_on c.args.text.now _ _ _ passes c.args.out.now (back c.loop-rest.out c.loop-rest.done c.put_units-done.new.out) (c.loop-rest.done + c.put_units-done.result) next c.requires
+    c.spell_run-done.new.out c.spell_run-done.result c.spell_run-done.ensures
+
+pub overflow_add-done-in-loop-rest : goal.overflow_add-done-in-loop-rest
+overflow_add-done-in-loop-rest c =
+    omega (arith, (after (goal.at.overflow_add-done-in-loop-rest c).After-spell_run-done).within, c.well_formed)
+
+pub slice_bounds-rest-count : goal.slice_bounds-rest-count
+slice_bounds-rest-count c = (ran (goal.at.slice_bounds-rest-count c).After-paced_run-run).inside
+
+pub slice_bounds-rest-start : goal.slice_bounds-rest-start
+slice_bounds-rest-start c = let e = (ran (goal.at.slice_bounds-rest-start c).After-paced_run-run).inside in search rules
+
+pub slice_bounds-rest-end : goal.slice_bounds-rest-end
+slice_bounds-rest-end c = let e = (ran (goal.at.slice_bounds-rest-end c).After-paced_run-run).inside in search rules
+
+pub loop-rest-smaller : goal.loop-rest-smaller
+loop-rest-smaller c =
+    let rest = c.loop-rest.rest.now in
+    let size = c.point_by-p.result.size in
+    omega (arith, (here (goal.at.loop-rest-smaller c).After-point_by-p).some, ends (goal.at.loop-rest-smaller c).After-point_by-p, lent-long rest size, lent-long (lent rest size) c.paced_run-run.result)
+
+pub loop-rest-preserved : goal.loop-rest-preserved
+loop-rest-preserved c =
+    let v = c.loop-rest.invariant in
+    let text = c.args.text.now in
+    let size = c.point_by-p.result.size in
+    record {
+      reads = v.reads;
+      at = v.at + size + c.paced_run-run.result;
+      rest-is = lent-there text (lent c.loop-rest.rest.now size) (v.at + size) (lent-there text c.loop-rest.rest.now v.at v.rest-is size) c.paced_run-run.result;
+      wrote = after (goal.at.loop-rest-preserved c).After-spell_run-done;
+    }
+
+pub shape_of-out : goal.shape_of-out
+shape_of-out c = c.loop-rest.invariant.wrote.long
+
+pub returns : goal.returns
+returns c =
+    let v = c.loop-rest.invariant in
+    let a = c.args in
+    let text = a.text.now in
+    let e = wrote-end utf8 utf16 text a.out.now c.loop-rest.out v.at c.loop-rest.done v.wrote (omega (arith, part_end text c.loop-rest.rest.now v.at v.rest-is, c.loop-rest-test.false)) in
+    record { count = e.0; output = e.1 }
