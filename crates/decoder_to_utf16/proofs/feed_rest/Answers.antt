@@ -1,0 +1,61 @@
+-- `feed_rest` meets its contract: tallied without room, then written, then entered.
+use mathlib.Core.Path.{sym}
+use Prim.Native.Nat.{◌≤◌}
+use lib.ListN.{length}
+use lib.Seq.{length-take-le}
+use native.Mathlib.Omega.{arith}
+use Rattle.utf8.specs.Bytes.{bytes}
+use Rattle.utf8.proofs.RowsOfBytes.{bytes_division}
+use Rattle.utf8.specs.Scalar.{utf8}
+use Rattle.utf16.specs.Scalar.{utf16}
+use Rattle.decoder_shared.proofs.SettledIsCut.{point_causeless}
+use Rattle.decoder_shared.proofs.SettledText.{settled-inside, dry-fit, enterable, both-refused, both-granted}
+use Rattle.decoder_to_utf16.specs.State.{to_units}
+use Rattle.decoder_to_utf16.proofs.SeamDivides.{bytes_cut}
+use Rattle.decoder_to_utf16.proofs.feed_rest.Goals.{After-tally_both-all}
+use Rattle.decoder_to_utf16.proofs.feed_rest.Goals as goal
+
+pub tally_both-all-requires : goal.tally_both-all-requires
+tally_both-all-requires c =
+    dry-fit to_units bytes_division bytes_cut (point_causeless utf8 utf16) c.args.state c.args.seg c.args.head.now c.args.rest.now c.args.list.now c.requires
+
+-- what is settled lies in the text
+inside : (c : After-tally_both-all) → c.tally_both-all.result.size ≤ length c.args.rest.now
+inside c =
+    omega (arith, c.tally_both-all.ensures.size_is, settled-inside bytes c.args.rest.now)
+
+pub slice_bounds-write_both-end : goal.slice_bounds-write_both-end
+slice_bounds-write_both-end c =
+    sym (length-take-le c.tally_both-all.result.size c.args.rest.now (inside (goal.at.slice_bounds-write_both-end c).After-tally_both-all))
+
+pub write_both-requires : goal.write_both-requires
+write_both-requires c =
+    (
+      omega (arith, c.requires.sums),
+      omega (arith, c.requires.sums, inside (goal.at.write_both-requires c).After-tally_both-all, length-take-le c.tally_both-all.result.size c.args.rest.now (inside (goal.at.write_both-requires c).After-tally_both-all)),
+    )
+
+pub enter_both-requires : goal.enter_both-requires
+enter_both-requires c =
+    enterable to_units bytes_division bytes_cut (point_causeless utf8 utf16) c.args.state c.args.seg c.args.head.now c.args.rest.now c.args.list.now c.requires
+    _ c.tally_both-all.result.size c.tally_both-all.ensures
+
+pub slice_bounds-keep-count : goal.slice_bounds-keep-count
+slice_bounds-keep-count c = inside (goal.at.slice_bounds-keep-count c).After-tally_both-all
+
+pub slice_bounds-keep-start : goal.slice_bounds-keep-start
+slice_bounds-keep-start c = inside (goal.at.slice_bounds-keep-start c).After-tally_both-all
+
+pub returns-in-Count : goal.returns-in-Count
+returns-in-Count c =
+    let a = c.args in
+    both-granted to_units bytes_division bytes_cut (point_causeless utf8 utf16) a.state a.seg a.head.now a.rest.now a.list.now c.requires
+    _ c.tally_both-all.result.size c.tally_both-all.ensures
+    a.taken a.out.now _ c.write_both.result c.write_both.ensures _ c.in-Count.is _ c.enter_both.ensures c.keep.result c.keep.ensures
+
+pub returns-in-Refused : goal.returns-in-Refused
+returns-in-Refused c =
+    let a = c.args in
+    both-refused to_units bytes_division bytes_cut (point_causeless utf8 utf16) a.state a.seg a.head.now a.rest.now a.list.now c.requires
+    _ c.tally_both-all.result.size c.tally_both-all.ensures
+    a.taken a.out.now _ c.write_both.result c.write_both.ensures _ c.in-Refused.is

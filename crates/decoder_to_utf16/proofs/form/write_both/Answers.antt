@@ -1,0 +1,77 @@
+-- `form::write_both` meets its contract: one text alone, or the second behind the places of the first, and then the first.
+use Prim.Native.Nat.{ℕ, ◌≤◌}
+use mathlib.Core.Path.{◌≡◌, refl, sym, ap, subst, ◌∙◌}
+use mathlib.Core.List.{List, [], ◌∷◌, ◌++◌, append-nil}
+use lib.ListN.{length}
+use native.Mathlib.Omega.{arith}
+use Rattle.theory.proofs.Divisions.{cut-nil}
+use Rattle.terms.specs.Form.{converted}
+use Rattle.terms.specs.Limits.{limit}
+use Rattle.terms.specs.Told.{told_written}
+use Rattle.terms.specs.Writing.{Writes, roomed}
+use Rattle.terms.proofs.AnswersWritten.{repair-count}
+use Rattle.utf8.specs.Scalar.{utf8}
+use Rattle.utf16.specs.Scalar.{utf16}
+use Rattle.convert_point.specs.declared.Target.TheVariants.{Bytes, Units}
+use Rattle.convert_point.proofs.Enough.{text_few}
+use Rattle.decoder_shared.proofs.FormsJoined.{needed_is, both-alone, both-short, both-refused, both-done}
+use Rattle.decoder_to_utf16.proofs.form.write_both.Goals as goal
+
+abbrev form_of : List ℕ → List ℕ
+form_of text = converted utf8 utf16 text
+
+-- no more units than bytes
+small : (text : List ℕ) → length text ≤ limit → length (form_of text) ≤ limit
+small text h = omega (arith, h, text_few Bytes Units text)
+
+nothing : (text : List ℕ) → length text ≡ 0 → form_of text ≡ []
+nothing [] e = rw (cut-nil utf8.look)
+nothing (x ∷ xs) e = absurd (omega arith)
+
+pub returns-then-head-eq0 : goal.returns-then-head-eq0
+returns-then-head-eq0 c =
+    let a = c.args in
+    both-alone (form_of a.head.now) (form_of a.rest.now) a.out.now a.rest.now c.requires.1 (nothing a.head.now c.if-head-eq0.true) _ _
+    c.repair_to_units.ensures
+
+-- or there is no second one
+pub returns-then-rest-eq0 : goal.returns-then-rest-eq0
+returns-then-rest-eq0 c =
+    let a = c.args in
+    let head = form_of a.head.now in
+    let all : head ≡ head ++ form_of a.rest.now = sym (ap (λ (xs : List ℕ). head ++ xs) (nothing a.rest.now c.if-rest-eq0.true) ∙ append-nil head) in
+    subst (λ (form : List ℕ). Writes (roomed (length a.out.now) form) form a.out.now c.repair_to_units-then-rest-eq0.new.out c.repair_to_units-then-rest-eq0.result) all
+    (both-alone [] head a.out.now a.head.now c.requires.0 refl _ _ c.repair_to_units-then-rest-eq0.ensures)
+
+pub overflow_add-result : goal.overflow_add-result
+overflow_add-result c =
+    omega (arith, c.places-at.ensures, c.places.ensures, small c.args.head.now c.requires.0, small c.args.rest.now c.requires.1)
+
+pub returns-then-out-at : goal.returns-then-out-at
+returns-then-out-at c =
+    let a = c.args in
+    both-short (form_of a.head.now) (form_of a.rest.now) a.out.now c.places-at.result c.places-at.ensures c.if-out-at.true _ c.places.ensures
+
+pub overflow_add-result-in-Count : goal.overflow_add-result-in-Count
+overflow_add-result-in-Count c =
+    let rest = c.args.rest.now in
+    let n = repair-count rest (form_of rest) _ _ c.repair_to_units-2.result c.repair_to_units-2.ensures _ c.in-Count.is in
+    omega (arith, n.0, c.places-at.ensures, small c.args.head.now c.requires.0, small rest c.requires.1)
+
+pub overflow_add-result-in-Refused : goal.overflow_add-result-in-Refused
+overflow_add-result-in-Refused c =
+    let rest = c.args.rest.now in
+    let e = needed_is rest (form_of rest) _ c.requires.1 c.in-Refused.why (sym (ap told_written c.in-Refused.is) ∙ c.repair_to_units-2.ensures.answer) in
+    omega (arith, c.first_value.ensures, e.0, c.places-at.ensures, small c.args.head.now c.requires.0, small rest c.requires.1)
+
+pub returns-in-Count : goal.returns-in-Count
+returns-in-Count c =
+    let a = c.args in
+    both-done (form_of a.head.now) (form_of a.rest.now) a.out.now c.places-at.result c.places-at.ensures c.if-out-at.false a.rest.now _ c.requires.1 _
+    (rw c.in-Count.is at c.repair_to_units-2.ensures) a.head.now _ c.requires.0 _ c.repair_to_units-in-Count.ensures
+
+pub returns-in-Refused : goal.returns-in-Refused
+returns-in-Refused c =
+    let a = c.args in
+    both-refused (form_of a.head.now) (form_of a.rest.now) a.out.now c.places-at.result c.places-at.ensures c.if-out-at.false a.rest.now _ c.requires.1
+    c.in-Refused.why (rw c.in-Refused.is at c.repair_to_units-2.ensures) _ c.first_value.ensures
