@@ -10,6 +10,7 @@ use std::time::Instant;
 
 const KINDS: [&str; 3] = [ASCII, CYRILLIC, DAMAGED];
 const LENGTH: usize = 16 << 20;
+const PROGRAM: &str = concat!(env!("CARGO_MANIFEST_DIR"), "/../crates/report/out/report");
 pub const RUNS: usize = 11;
 
 /// Where the text of a kind stands; tools/count puts the count of the report's run beside it.
@@ -40,9 +41,9 @@ fn run(command: &mut Command, text: &Path) -> Result<(ExitStatus, f64)> {
 }
 
 /// `iconv` would stop at the first damage; with `-c` it leaves damages out and reads on.
-fn commands(target: &Path, kind: &str) -> [Command; 3] {
+fn commands(kind: &str) -> [Command; 3] {
     let mut all = [
-        Command::new(target.join("bin/report")),
+        Command::new(PROGRAM),
         Command::new("wc"),
         Command::new("iconv"),
     ];
@@ -59,7 +60,7 @@ pub fn times(target: &Path) -> Result<Vec<Run>> {
     write_texts(target)?;
     let mut runs = Vec::new();
     for kind in KINDS {
-        let (mut commands, mut times) = (commands(target, kind), [(); 3].map(|()| Vec::new()));
+        let (mut commands, mut times) = (commands(kind), [(); 3].map(|()| Vec::new()));
         let text = file(target, kind);
         let (status, _) = run(&mut commands[0], &text)?;
         assert!(status.success(), "the report of {kind} failed");

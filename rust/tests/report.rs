@@ -8,7 +8,7 @@ use std::process::{Command, Stdio};
 
 /// The program; where it is not compiled for this machine, under the emulator that is named.
 fn program() -> Command {
-    let report = concat!(env!("CARGO_MANIFEST_DIR"), "/../target/bin/report");
+    let report = concat!(env!("CARGO_MANIFEST_DIR"), "/../crates/report/out/report");
     match std::env::var("MOXANDRIL_EMULATOR") {
         Ok(emulator) => {
             let mut command = Command::new(emulator);
