@@ -31,7 +31,7 @@ into a ready buffer (encoding_rs, and std's conversions here).
 whole form. No other peer allocates in the timed part. Ours allocates nothing.
 - simdutf8 (basic) and bytecount choose AVX2 at run time where the processor has it. encoding_rs, as Debian has it, is built \
 without its SIMD feature and reads words. std's check reads words. \
-Ours is compiled for plain x86-64 (SSE2).
+Ours is compiled for x86-64-v2 (SSE4.2).
 - bytecount counts code points alone, while the builder counts three measures and writes checkpoints. The plain loop is Rust's \
 `utf8_chunks` and `chars`, counting units, code points and lines, which end after 0A, after 0D unless 0A follows, and after U+0085, U+2028 \
 and U+2029.
