@@ -1,0 +1,11 @@
+-- `same_units` meets its contract: the elements before i are the same.
+use Prim.Native.Nat.{◌-◌}
+use lib.ListN.{length}
+use Rattle.demand_shared.proofs.EqualExactly.{Alike}
+use Rattle.demand_shared.proofs.same_units.Given as goal
+
+abbrev pub invariant-loop-i : goal.invariant-loop-i
+invariant-loop-i l = Alike l.units l.others l.i
+
+abbrev pub decreases-loop-i : goal.decreases-loop-i
+decreases-loop-i l = length l.units - l.i
