@@ -1,0 +1,57 @@
+-- `watched` meets its contract: a granted feed came to what was watched, and a refused one was due.
+use mathlib.Core.Path.{sym, ap, ◌∙◌}
+use Rattle.terms.specs.Limits.{fresh_of}
+use Rattle.terms.specs.Told.{told_written}
+use Rattle.decoder.specs.Feeding.{Feeds}
+use Rattle.demand_watch.proofs.WatchedAsFed.{Same, same_as_fed}
+use Rattle.demand_watch.proofs.SameStates.{same_if, refused-due}
+use Rattle.demand_watch.proofs.watched.Goals.{After-feed-fed, In-Count}
+use Rattle.demand_watch.proofs.watched.Goals as goal
+
+-- what the feed did, from the fresh state
+did : (c : After-feed-fed)
+    → Feeds (fresh_of c.args.room)
+    c.args.text.now
+    c.args.out.now
+    c.args.list.now
+    c.feed-fed.new.out c.feed-fed.new.list c.feed-fed.result
+did c = rw c.fresh.ensures at c.feed-fed.ensures
+
+-- where it was granted
+same : (c : In-Count)
+    → Same c.watch_all-last.result
+    c.feed-fed.result
+same c =
+    let did : Feeds (fresh_of c.args.room)
+    c.args.text.now
+    c.args.out.now
+    c.args.list.now
+    c.feed-fed.new.out c.feed-fed.new.list c.feed-fed.result = rw c.fresh.ensures at c.feed-fed.ensures in
+    let a = c.args in
+    same_as_fed a.room a.text.now a.out.now a.list.now c.watch_all-last.result c.feed-fed.result c.watch_all-last.ensures
+    did c.in-Count.field-0 c.in-Count.is
+
+pub returns-then-wide-fed : goal.returns-then-wide-fed
+returns-then-wide-fed c =
+    absurd (c.if-wide-fed.true (c.wide.ensures ∙ (same (goal.at.returns-then-wide-fed c).In-Count).reply))
+
+pub returns-else-wide-fed : goal.returns-else-wide-fed
+returns-else-wide-fed c =
+    let q = c.feed-fed.result in
+    let w = c.watch_all-last.result in
+    record {
+      yes = c.same_state.ensures ∙ same_if w.state q.state (same (goal.at.returns-else-wide-fed c).In-Count).state;
+      output = (did (goal.at.returns-else-wide-fed c).After-feed-fed).output;
+      entries = (did (goal.at.returns-else-wide-fed c).After-feed-fed).entries;
+    }
+
+pub returns-in-Refused : goal.returns-in-Refused
+returns-in-Refused c =
+    let a = c.args in
+    record {
+      yes =
+          rw (c.feed-fed.auto.out, c.feed-fed.auto.list) at c.is_due.ensures
+          ∙ refused-due a.room a.text.now a.out.now a.list.now c.in-Refused.why (sym (ap told_written c.in-Refused.is) ∙ (did (goal.at.returns-in-Refused c).After-feed-fed).answer);
+      output = (did (goal.at.returns-in-Refused c).After-feed-fed).output;
+      entries = (did (goal.at.returns-in-Refused c).After-feed-fed).entries;
+    }
