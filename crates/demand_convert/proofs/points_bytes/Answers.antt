@@ -1,0 +1,40 @@
+-- `points_bytes` meets its contract: both steps, or whether the refusal of the first was due.
+use Prim.Native.Nat.{◌≤◌}
+use mathlib.Core.Path.{refl, sym}
+use lib.ListN.{length}
+use lib.Seq.{length-take-le}
+use native.Mathlib.Omega.{arith}
+use Rattle.terms.specs.Strict.{damaged}
+use Rattle.utf8.specs.Scalar.{utf8}
+use Rattle.utf8.proofs.FaithfulForm.{utf8-faithful}
+use Rattle.code_points.specs.Points.{code_points, no_scalar}
+use Rattle.code_points.proofs.CodePointsDivide.{points-faithful}
+use Rattle.convert_point.specs.Room.{most_of}
+use Rattle.convert_point.specs.declared.Target.TheVariants.{Bytes, Points}
+use Rattle.convert_point.proofs.Enough.{enough}
+use Rattle.demand_convert.proofs.WayBack.{count_fits, round-granted, round-refused}
+use Rattle.demand_convert.proofs.points_bytes.Goals.{In-Count}
+use Rattle.demand_convert.proofs.points_bytes.Goals as goal
+
+within : (c : In-Count) → c.in-Count.n ≤ length c.to_bytes.new.out
+within c =
+    let a = c.args in
+    omega (arith, count_fits no_scalar code_points utf8 a.text.now a.between.now c.to_bytes.ensures (λ e. refl) c.in-Count.n c.in-Count.is, c.to_bytes.auto.out)
+
+pub slice_bounds-bytes_as_points-end : goal.slice_bounds-bytes_as_points-end
+slice_bounds-bytes_as_points-end c = within c
+
+pub slice_bounds-bytes_as_points-end-in-Count : goal.slice_bounds-bytes_as_points-end-in-Count
+slice_bounds-bytes_as_points-end-in-Count c = sym (length-take-le _ _ (within c))
+
+pub returns-in-Count : goal.returns-in-Count
+returns-in-Count c =
+    let a = c.args in
+    round-granted no_scalar damaged code_points utf8 a.text.now a.between.now c.to_bytes.ensures points-faithful utf8-faithful (λ e. refl) c.in-Count.n c.in-Count.is
+    a.back.now c.bytes_as_points.new.back c.bytes_as_points.result c.bytes_as_points.ensures
+
+pub returns-in-Refused : goal.returns-in-Refused
+returns-in-Refused c =
+    let a = c.args in
+    round-refused no_scalar damaged code_points utf8 a.text.now a.between.now c.to_bytes.ensures (λ e. refl) a.back.now c.in-Refused.why c.in-Refused.is
+    (most_of Points Bytes (length a.text.now)) (enough Points Bytes a.text.now) c.due_points.result c.due_points.ensures

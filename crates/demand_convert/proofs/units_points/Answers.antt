@@ -1,0 +1,40 @@
+-- `units_points` meets its contract: both steps, or whether the refusal of the first was due.
+use Prim.Native.Nat.{◌≤◌}
+use mathlib.Core.Path.{refl, sym}
+use lib.ListN.{length}
+use lib.Seq.{length-take-le}
+use native.Mathlib.Omega.{arith}
+use Rattle.terms.specs.Strict.{damaged}
+use Rattle.utf16.specs.Scalar.{utf16}
+use Rattle.utf16.proofs.FaithfulForm.{utf16-faithful}
+use Rattle.code_points.specs.Points.{code_points, no_scalar}
+use Rattle.code_points.proofs.CodePointsDivide.{points-faithful}
+use Rattle.convert_point.specs.Room.{most_of}
+use Rattle.convert_point.specs.declared.Target.TheVariants.{Units, Points}
+use Rattle.convert_point.proofs.Enough.{enough}
+use Rattle.demand_convert.proofs.WayBack.{count_fits, round-granted, round-refused}
+use Rattle.demand_convert.proofs.units_points.Goals.{In-Count}
+use Rattle.demand_convert.proofs.units_points.Goals as goal
+
+within : (c : In-Count) → c.in-Count.n ≤ length c.to_points.new.out
+within c =
+    let a = c.args in
+    omega (arith, count_fits damaged utf16 code_points a.text.now a.between.now c.to_points.ensures (λ e. refl) c.in-Count.n c.in-Count.is, c.to_points.auto.out)
+
+pub slice_bounds-points_as_units-end : goal.slice_bounds-points_as_units-end
+slice_bounds-points_as_units-end c = within c
+
+pub slice_bounds-points_as_units-end-in-Count : goal.slice_bounds-points_as_units-end-in-Count
+slice_bounds-points_as_units-end-in-Count c = sym (length-take-le _ _ (within c))
+
+pub returns-in-Count : goal.returns-in-Count
+returns-in-Count c =
+    let a = c.args in
+    round-granted damaged no_scalar utf16 code_points a.text.now a.between.now c.to_points.ensures utf16-faithful points-faithful (λ e. refl) c.in-Count.n c.in-Count.is
+    a.back.now c.points_as_units.new.back c.points_as_units.result c.points_as_units.ensures
+
+pub returns-in-Refused : goal.returns-in-Refused
+returns-in-Refused c =
+    let a = c.args in
+    round-refused damaged no_scalar utf16 code_points a.text.now a.between.now c.to_points.ensures (λ e. refl) a.back.now c.in-Refused.why c.in-Refused.is
+    (most_of Units Points (length a.text.now)) (enough Units Points a.text.now) c.due_units.result c.due_units.ensures

@@ -1,0 +1,112 @@
+-- `are_alike` meets its contract: its tests are the definition's, and a way that is granted as is due has room for its entries.
+use mathlib.Core.Path.{◌≡◌, sym, ap, ◌∙◌}
+use Prim.Native.Nat.{◌*◌, ◌≤◌}
+use mathlib.Core.Bool.{true, beq}
+use lib.ListN.{length, take}
+use lib.Seq.{length-take-le}
+use borrow.Author.Tests.{not-true, not-false}
+use native.Mathlib.Omega.{arith}
+use Rattle.terms.specs.Limits.{entry_width}
+use Rattle.demand_shared.specs.Equal.{equal}
+use Rattle.demand_feeding.specs.Comparing.{enough}
+use Rattle.demand_feeding.proofs.FoundAlike.{beq-yes, enough-start, enough-stored}
+use Rattle.demand_feeding.proofs.are_alike.Goals.{Else-a-is_enough, Else-b-is_enough, Else-not-b}
+use Rattle.demand_feeding.proofs.are_alike.Goals as goal
+
+pub returns-then-a-is_enough : goal.returns-then-a-is_enough
+returns-then-a-is_enough c =
+    let a = c.args in
+    rw (ap (beq a.a.granted) (sym c.is_enough.ensures) ∙ not-true _ c.if-a-is_enough.true)
+
+-- each way is granted exactly where there is room
+once-due : (c : Else-a-is_enough) → let a = c.args in
+    beq a.a.granted (enough a.room (length a.once_list.now) a.form a.once) ≡ true
+once-due c =
+    let a = c.args in
+    ap (beq a.a.granted) (sym c.is_enough.ensures) ∙ not-false _ c.if-a-is_enough.false
+
+pub returns-then-b-is_enough : goal.returns-then-b-is_enough
+returns-then-b-is_enough c =
+    let a = c.args in
+    rw (once-due (goal.at.returns-then-b-is_enough c).Else-a-is_enough, ap (beq a.b.granted) (sym c.is_enough-2.ensures) ∙ not-true _ c.if-b-is_enough.true)
+
+parts-due : (c : Else-b-is_enough) → let a = c.args in
+    beq a.b.granted (enough a.room (length a.parts_list.now) a.form a.parts) ≡ true
+parts-due c =
+    let a = c.args in
+    ap (beq a.b.granted) (sym c.is_enough-2.ensures) ∙ not-false _ c.if-b-is_enough.false
+
+pub returns-then-not-a : goal.returns-then-not-a
+returns-then-not-a c =
+    let a = c.args in
+    rw (once-due (goal.at.returns-then-not-a c).Else-a-is_enough, parts-due (goal.at.returns-then-not-a c).Else-b-is_enough, not-true a.a.granted c.if-not-a.true)
+
+pub returns-then-not-b : goal.returns-then-not-b
+returns-then-not-b c =
+    let a = c.args in
+    rw (
+      once-due (goal.at.returns-then-not-b c).Else-a-is_enough,
+      parts-due (goal.at.returns-then-not-b c).Else-b-is_enough,
+      not-false a.a.granted c.if-not-a.false,
+      not-true a.b.granted c.if-not-b.true,
+    )
+
+pub returns-then-not-same_totals : goal.returns-then-not-same_totals
+returns-then-not-same_totals c =
+    let a = c.args in
+    rw (
+      once-due (goal.at.returns-then-not-same_totals c).Else-a-is_enough,
+      parts-due (goal.at.returns-then-not-same_totals c).Else-b-is_enough,
+      not-false a.a.granted c.if-not-a.false,
+      not-false a.b.granted c.if-not-b.false,
+      sym c.same_totals.ensures ∙ c.if-not-same_totals.true,
+    )
+
+once-enough : (c : Else-not-b) → let a = c.args in enough a.room (length a.once_list.now) a.form a.once ≡ true
+once-enough c =
+    let once-due : let a = c.args in
+    beq a.a.granted (enough a.room (length a.once_list.now) a.form a.once) ≡ true = let a = c.args in
+    ap (beq a.a.granted) (sym c.is_enough.ensures) ∙ not-false _ c.if-a-is_enough.false in
+    let a = c.args in
+    let granted = not-false a.a.granted c.if-not-a.false in
+    beq-yes a.a.granted (enough a.room (length a.once_list.now) a.form a.once) once-due granted
+
+parts-enough : (c : Else-not-b) → let a = c.args in enough a.room (length a.parts_list.now) a.form a.parts ≡ true
+parts-enough c =
+    let parts-due : let a = c.args in
+    beq a.b.granted (enough a.room (length a.parts_list.now) a.form a.parts) ≡ true = let a = c.args in
+    ap (beq a.b.granted) (sym c.is_enough-2.ensures) ∙ not-false _ c.if-b-is_enough.false in
+    let a = c.args in
+    let granted = not-false a.b.granted c.if-not-b.false in
+    beq-yes a.b.granted (enough a.room (length a.parts_list.now) a.form a.parts) parts-due granted
+
+pub overflow_mul-n : goal.overflow_mul-n
+overflow_mul-n c =
+    let a = c.args in
+    record { fits = omega (arith, c.least-n.ensures, enough-start a.room (length a.once_list.now) a.form a.once (once-enough (goal.at.overflow_mul-n c).Else-not-b)) }
+
+pub slice_bounds-same_numbers-end : goal.slice_bounds-same_numbers-end
+slice_bounds-same_numbers-end c =
+    let a = c.args in
+    let i : entry_width * c.least-n.result ≤ length a.parts_list.now
+    = rw c.least-n.ensures (enough-stored a.room (length a.parts_list.now) a.form a.parts (parts-enough (goal.at.slice_bounds-same_numbers-end c).Else-not-b) a.a.count) in
+    sym (length-take-le _ _ i)
+
+pub slice_bounds-same_numbers-end-2 : goal.slice_bounds-same_numbers-end-2
+slice_bounds-same_numbers-end-2 c =
+    let a = c.args in
+    let i : entry_width * c.least-n.result ≤ length a.once_list.now
+    = rw c.least-n.ensures (enough-stored a.room (length a.once_list.now) a.form a.once (once-enough (goal.at.slice_bounds-same_numbers-end-2 c).Else-not-b) a.a.count) in
+    sym (length-take-le _ _ i)
+
+pub returns : goal.returns
+returns c =
+    let a = c.args in
+    rw (
+      once-due (goal.at.returns c).Else-a-is_enough,
+      parts-due (goal.at.returns c).Else-b-is_enough,
+      not-false a.a.granted c.if-not-a.false,
+      not-false a.b.granted c.if-not-b.false,
+      sym c.same_totals.ensures ∙ c.if-not-same_totals.false,
+    )
+    (c.same_numbers.ensures ∙ ap (λ n. equal (take (entry_width * n) a.parts_list.now) (take (entry_width * n) a.once_list.now)) c.least-n.ensures)
