@@ -1,0 +1,26 @@
+-- `end` meets its contract: what finish told, left in its part of the output and in the list.
+use mathlib.Core.Path.{ap, ◌∙◌}
+use Rattle.terms.specs.Told.{is_granted}
+use Rattle.terms.proofs.ToldBack.{no_zero}
+use Rattle.decoder.specs.Feeding.{told_total}
+use Rattle.decoder_from_utf16.specs.State.{unit_decoding}
+use Rattle.demand_feeding.proofs.CallsOnTheWay.{end_before, end-granted, end_refused}
+use Rattle.demand_from_utf16.specs.Inside.Feeding.{held}
+use Rattle.demand_from_utf16.proofs.end.Goals as goal
+
+pub returns-then-gone-text : goal.returns-then-gone-text
+returns-then-gone-text c =
+    let a = c.args in
+    end_before unit_decoding a.text.now (held a.gone a.out.now a.list.now) c.if-gone-text.true c.nothing.result c.nothing.ensures
+
+pub returns-in-Given : goal.returns-in-Given
+returns-in-Given c =
+    let a = c.args in
+    end-granted unit_decoding a.text.now (held a.gone a.out.now a.list.now) c.if-gone-text.false c.finish-answer.ensures
+    c.in-Given.written c.in-Given.whole c.in-Given.damaged c.in-Given.count (ap told_total c.in-Given.is)
+
+pub returns-in-Refused : goal.returns-in-Refused
+returns-in-Refused c =
+    let a = c.args in
+    end_refused unit_decoding a.text.now (held a.gone a.out.now a.list.now) c.if-gone-text.false c.finish-answer.ensures
+    (ap (λ q. is_granted (told_total q)) c.in-Refused.is ∙ no_zero c.in-Refused.field-0) c.nothing-in-Refused.result c.nothing-in-Refused.ensures

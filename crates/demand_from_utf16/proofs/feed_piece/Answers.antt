@@ -1,0 +1,44 @@
+-- `feed_piece` meets its contract: what the feed told, left in its part of the output and in the list.
+use mathlib.Core.Path.{ap, ◌∙◌}
+use Prim.Native.Nat.{◌-◌, ◌≤◌}
+use lib.ListN.{length}
+use Rattle.terms.specs.Told.{told_written, is_granted}
+use Rattle.terms.proofs.ToldBack.{no_zero}
+use Rattle.decoder_from_utf16.specs.State.{unit_decoding}
+use Rattle.demand_shared.proofs.CutsBetween.{bring-from, bring-end}
+use Rattle.demand_feeding.proofs.CallsOnTheWay.{all-lent, piece-granted, piece-refused}
+use Rattle.demand_from_utf16.specs.Inside.Feeding.{held}
+use Rattle.demand_from_utf16.proofs.feed_piece.Goals.{After-bring-to}
+use Rattle.demand_from_utf16.proofs.feed_piece.Goals as goal
+
+-- the piece lies in the text
+from_in : (c : After-bring-to) → c.args.gone.from ≤ c.bring-to.result
+from_in c =
+    rw c.bring-to.ensures (bring-from c.args.cut c.args.gone.from (length c.args.text.now) c.requires.0)
+
+to_in : (c : After-bring-to) → c.bring-to.result ≤ length c.args.text.now
+to_in c =
+    rw c.bring-to.ensures (bring-end c.args.cut c.args.gone.from (length c.args.text.now) c.requires.0)
+
+pub slice_bounds-feed-count : goal.slice_bounds-feed-count
+slice_bounds-feed-count c = from_in (goal.at.slice_bounds-feed-count c).After-bring-to
+
+pub slice_bounds-feed-start : goal.slice_bounds-feed-start
+slice_bounds-feed-start c = from_in (goal.at.slice_bounds-feed-start c).After-bring-to
+
+pub slice_bounds-feed-end : goal.slice_bounds-feed-end
+slice_bounds-feed-end c = to_in (goal.at.slice_bounds-feed-end c).After-bring-to
+
+pub returns-in-Count : goal.returns-in-Count
+returns-in-Count c =
+    let a = c.args in
+    piece-granted unit_decoding a.text.now (held a.gone a.out.now a.list.now) a.cut (length a.out.now) c.bring-to.result
+    (length a.out.now - a.gone.done) c.bring-to.ensures (all-lent a.out.now a.gone.done) c.feed-fed.ensures
+    c.in-Count.n (ap told_written c.in-Count.is)
+
+pub returns-in-Refused : goal.returns-in-Refused
+returns-in-Refused c =
+    let a = c.args in
+    piece-refused unit_decoding a.text.now (held a.gone a.out.now a.list.now) a.cut (length a.out.now) c.bring-to.result
+    (length a.out.now - a.gone.done) c.bring-to.ensures (all-lent a.out.now a.gone.done) c.feed-fed.ensures
+    (ap (λ q. is_granted (told_written q)) c.in-Refused.is ∙ no_zero c.in-Refused.field-0)
