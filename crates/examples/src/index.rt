@@ -1,93 +1,90 @@
 // An index of a text: the calls of moxandril::index.
-use crate::show::{end, put};
 use moxandril::index::{Builder, Building};
 use moxandril::places::{Bytes, Lines, Points, Units};
+use std::io;
 
-fn built(answer: Building) {
+fn built(rt: &impl Print, answer: Building) -> io::Result<()> {
     match answer {
-        Building::Done => put(b"index::feed, finish -> done row"),
-        Building::Refused(r) => crate::show::refused(r),
+        Building::Done => print!(rt; "index::feed, finish -> done row"),
+        Building::Refused(r) => crate::show::refused(rt, r),
     }
 }
 
 // The end of the text, and the row of checkpoints: bytes, units, code points and lines of each.
-fn finish(state: Builder, row: &mut [u32]) {
-    let answer = moxandril::index::finish(state, row).answer;
-    built(answer);
-    crate::show::list_line(row);
+fn finish(rt: &impl Print, state: Builder, row: &mut [u32]) -> io::Result<()> {
+    built(rt, moxandril::index::finish(state, row).answer)?;
+    crate::show::list_line(rt, row)
 }
 
 fn feed(state: Builder, piece: &[u8], row: &mut [u32]) -> Builder {
-    let fed = moxandril::index::feed(state, piece, row);
-    fed.state
+    moxandril::index::feed(state, piece, row).state
 }
 
 // Builds the index of a text in two pieces.
-fn build(text: &[u8], row: &mut [u32]) {
-    let half = text.len() / 2;
-    let first = feed(Builder::fresh(), &text[..half], row);
-    let second = feed(first, &text[half..], row);
-    finish(second, row);
+fn build(rt: &impl Print, text: &[u8], row: &mut [u32]) -> io::Result<()> {
+    let (left, right) = text.split_at(text.len() / 2);
+    let first = feed(Builder::fresh(), left, row);
+    let second = feed(first, right, row);
+    finish(rt, second, row)
 }
 
-fn lookups(text: &[u8], row: &[u32], n: usize) {
-    crate::show::of_number(b"index::at_byte, at_unit, at_point, at_line:", n);
-    crate::places::found(moxandril::index::at_byte(text, row, Bytes(n)));
-    crate::places::found(moxandril::index::at_unit(text, row, Units(n)));
-    crate::places::found(moxandril::index::at_point(text, row, Points(n)));
-    crate::places::found(moxandril::index::at_line(text, row, Lines(n)));
-    end();
+fn lookups(rt: &impl Print, text: &[u8], row: &[u32], n: usize) -> io::Result<()> {
+    crate::show::of_number(rt, "index::at_byte, at_unit, at_point, at_line:", n)?;
+    crate::places::found(rt, moxandril::index::at_byte(text, row, Bytes(n)))?;
+    crate::places::found(rt, moxandril::index::at_unit(text, row, Units(n)))?;
+    crate::places::found(rt, moxandril::index::at_point(text, row, Points(n)))?;
+    crate::places::found(rt, moxandril::index::at_line(text, row, Lines(n)))?;
+    println!(rt)
 }
 
 // Is it the index of the text, and where lookups in it go.
-fn audited(text: &[u8], row: &[u32]) {
+fn audited(rt: &impl Print, text: &[u8], row: &[u32]) -> io::Result<()> {
     if moxandril::index::audit(text, row) {
-        put(b"index::audit -> yes\n");
+        println!(rt; "index::audit -> yes")?;
     } else {
-        put(b"index::audit -> no\n");
+        println!(rt; "index::audit -> no")?;
     }
-    lookups(text, row, 256);
-    lookups(text, row, 230);
-    lookups(text, row, 250);
+    lookups(rt, text, row, 256)?;
+    lookups(rt, text, row, 230)?;
+    lookups(rt, text, row, 250)
 }
 
 // A segment lies across the checkpoint's byte: the checkpoint is the boundary before it.
-fn across() {
+fn across(rt: &impl Print) -> io::Result<()> {
     let mut text = [0x41u8; 257];
     let mut row = [0u32; 8];
     text[254] = 0xE2;
     text[255] = 0x82;
     text[256] = 0xAC;
-    build(&text, &mut row);
+    build(rt, &text, &mut row)?;
     text[256] = 0x41;
-    build(&text, &mut row);
+    build(rt, &text, &mut row)
 }
 
 // The text is cut and a checkpoint's byte lies between 0D and 0A: the line ends behind the 0A.
-fn between() {
+fn between(rt: &impl Print) -> io::Result<()> {
     let mut text = [0x41u8; 512];
     let mut row = [0u32; 12];
     text[255] = 0x0D;
     text[256] = 0x0A;
-    build(&text, &mut row);
-    lookups(&text, &row, 1);
+    build(rt, &text, &mut row)?;
+    lookups(rt, &text, &row, 1)
 }
 
 // The index of 300 letters, true and then with a false number in its second checkpoint.
-fn falsified() {
+fn falsified(rt: &impl Print) -> io::Result<()> {
     let text = [0x41u8; 300];
     let mut row = [0u32; 8];
-    build(&text, &mut row);
-    audited(&text, &row);
+    build(rt, &text, &mut row)?;
+    audited(rt, &text, &row)?;
     row[5] = 200;
-    audited(&text, &row);
+    audited(rt, &text, &row)
 }
 
-pub(crate) fn examples() {
-    crate::show::of_number(b"index::needed:", 300);
-    crate::show::number(moxandril::index::needed(300));
-    end();
-    across();
-    between();
-    falsified();
+pub(crate) fn examples(rt: &impl Print) -> io::Result<()> {
+    crate::show::of_number(rt, "index::needed:", 300)?;
+    println!(rt; " {}", moxandril::index::needed(300))?;
+    across(rt)?;
+    between(rt)?;
+    falsified(rt)
 }

@@ -1,6 +1,7 @@
 // Runs the fixed examples, and each call of the front door on a small text, and prints a line for each: the call, what it is asked,
 // and what came. Texts are in hexadecimal; a refusal is its number and its values.
 #![tactic(auto)]
+
 mod bytes;
 mod index;
 mod pages;
@@ -13,15 +14,17 @@ mod show;
 mod unit_pieces;
 mod units;
 
-fn main() {
-    crate::bytes::examples();
-    crate::units::examples();
-    crate::points::examples();
-    crate::pages::examples();
-    crate::pieces::examples();
-    crate::unit_pieces::examples();
-    crate::pieces_to_units::examples();
-    crate::places::examples();
-    crate::phrases::examples();
-    crate::index::examples();
+use std::io;
+
+fn main(rt: HostRuntime) -> io::Result<()> {
+    crate::bytes::examples(&rt)?;
+    crate::units::examples(&rt)?;
+    crate::points::examples(&rt)?;
+    crate::pages::examples(&rt)?;
+    crate::pieces::examples(&rt)?;
+    crate::unit_pieces::examples(&rt)?;
+    crate::pieces_to_units::examples(&rt)?;
+    crate::places::examples(&rt)?;
+    crate::phrases::examples(&rt)?;
+    crate::index::examples(&rt)
 }

@@ -1,42 +1,40 @@
 // Where a phrase stands in a text of bytes: the calls of moxandril::phrases.
-use crate::show::{bytes, end, of_bytes, put};
+use crate::show::{bytes, of_bytes};
 use moxandril::phrases::Match;
+use std::io;
 
-fn found(m: Match) {
+fn found(rt: &impl Print, m: Match) -> io::Result<()> {
     match m {
-        Match::At(k) => {
-            put(b" at");
-            crate::show::number(k);
-        }
-        Match::Absent => put(b" absent"),
-        Match::Refused(r) => crate::show::refused(r),
+        Match::At(k) => print!(rt; " at {k}"),
+        Match::Absent => print!(rt; " absent"),
+        Match::Refused(r) => crate::show::refused(rt, r),
     }
 }
 
-fn asked(name: &[u8], entry: &[u8], needle: &[u8]) {
-    put(name);
-    bytes(entry);
-    of_bytes(b",", needle);
+fn asked(rt: &impl Print, name: &str, entry: &[u8], needle: &[u8]) -> io::Result<()> {
+    print!(rt; "{name}")?;
+    bytes(rt, entry)?;
+    of_bytes(rt, ",", needle)
 }
 
-fn example(entry: &[u8], needle: &[u8]) {
-    asked(b"phrases::find, find_plain:", entry, needle);
-    found(moxandril::phrases::find(entry, needle));
-    found(moxandril::phrases::find_plain(entry, needle));
-    end();
-    asked(b"phrases::find_rest:", entry, needle);
-    bytes(moxandril::phrases::find_rest(entry, needle));
-    end();
+fn example(rt: &impl Print, entry: &[u8], needle: &[u8]) -> io::Result<()> {
+    asked(rt, "phrases::find, find_plain:", entry, needle)?;
+    found(rt, moxandril::phrases::find(entry, needle))?;
+    found(rt, moxandril::phrases::find_plain(entry, needle))?;
+    println!(rt)?;
+    asked(rt, "phrases::find_rest:", entry, needle)?;
+    bytes(rt, moxandril::phrases::find_rest(entry, needle))?;
+    println!(rt)
 }
 
-fn all(entry: &[u8]) {
-    example(entry, b"\xE2\x82\xAC");
-    example(entry, b"\x6C");
-    example(entry, b"\xF0\x9F\x9A\x86");
-    example(entry, b"");
-    example(entry, b"\x20\xE2\x82");
+fn all(rt: &impl Print, entry: &[u8]) -> io::Result<()> {
+    example(rt, entry, b"\xE2\x82\xAC")?;
+    example(rt, entry, b"\x6C")?;
+    example(rt, entry, b"\xF0\x9F\x9A\x86")?;
+    example(rt, entry, b"")?;
+    example(rt, entry, b"\x20\xE2\x82")
 }
 
-pub(crate) fn examples() {
-    all(b"\x80\x43\x65\x6C\x6C\x20\xE2\x82\xAC\xE2");
+pub(crate) fn examples(rt: &impl Print) -> io::Result<()> {
+    all(rt, b"\x80\x43\x65\x6C\x6C\x20\xE2\x82\xAC\xE2")
 }

@@ -1,45 +1,42 @@
 // A byte text that comes in pieces, written as UTF-16 units: the calls of moxandril::pieces_to_units.
-use crate::show::number;
 use moxandril::pieces_to_units::Decoder;
+use std::io;
 
-fn start(room: usize) -> Decoder {
+fn start(rt: &impl Print, room: usize) -> io::Result<Decoder> {
     let started = moxandril::pieces_to_units::start(room);
-    crate::show::of_number(b"pieces_to_units::start: room", room);
-    let answer = started.answer;
-    crate::pieces::opened(answer);
-    started.state
+    crate::show::of_number(rt, "pieces_to_units::start: room", room)?;
+    crate::pieces::opened(rt, started.answer)?;
+    Ok(started.state)
 }
 
 // What was written, and the state for the next call.
-fn feed(state: Decoder, piece: &[u8], list: &mut [u32]) -> Decoder {
+fn feed(rt: &impl Print, state: Decoder, piece: &[u8], list: &mut [u32]) -> io::Result<Decoder> {
     let mut out = [0u16; 64];
     let fed = moxandril::pieces_to_units::feed(state, piece, &mut out, list);
-    let answer = fed.answer;
-    crate::show::of_bytes(b"pieces_to_units::feed:", piece);
-    crate::show::wrote_units(answer, out);
-    fed.state
+    crate::show::of_bytes(rt, "pieces_to_units::feed:", piece)?;
+    crate::show::wrote_units(rt, fed.answer, &out)?;
+    Ok(fed.state)
 }
 
 // The totals, and the list of damages: start, length and cause of each, in bytes.
-fn finish(state: Decoder, list: &mut [u32]) {
+fn finish(rt: &impl Print, state: Decoder, list: &mut [u32]) -> io::Result<()> {
     let mut out = [0u16; 64];
     let answer = moxandril::pieces_to_units::finish(state, &mut out, list).answer;
-    crate::pieces::totals(b"pieces_to_units::finish ->", answer);
-    crate::show::list_line(list);
+    crate::pieces::totals(rt, "pieces_to_units::finish ->", answer)?;
+    crate::show::list_line(rt, list)
 }
 
 // A pair from bytes of two pieces, and a damage across two.
-fn across() {
+fn across(rt: &impl Print) -> io::Result<()> {
     let mut list = [0u32; 6];
-    let a = feed(start(2), b"\xF0\x9F\x9A", &mut list);
-    let b = feed(a, b"\x86\xE2\x82", &mut list);
-    let c = feed(b, b"\x41", &mut list);
-    finish(c, &mut list);
+    let a = feed(rt, start(rt, 2)?, b"\xF0\x9F\x9A", &mut list)?;
+    let b = feed(rt, a, b"\x86\xE2\x82", &mut list)?;
+    let c = feed(rt, b, b"\x41", &mut list)?;
+    finish(rt, c, &mut list)
 }
 
-pub(crate) fn examples() {
-    across();
-    crate::show::of_number(b"pieces_to_units::most:", 3);
-    number(moxandril::pieces_to_units::most(3));
-    crate::show::end();
+pub(crate) fn examples(rt: &impl Print) -> io::Result<()> {
+    across(rt)?;
+    crate::show::of_number(rt, "pieces_to_units::most:", 3)?;
+    println!(rt; " {}", moxandril::pieces_to_units::most(3))
 }

@@ -1,187 +1,150 @@
 // Printing: a call's name and what it is asked, texts in hexadecimal, and what came.
-use libc::STDOUT_FILENO;
 use moxandril::{Checked, First, Point, Refusal, Written};
+use std::io;
 
-pub(crate) fn put(word: &[u8]) {
-    io::write_all(STDOUT_FILENO, word);
+pub(crate) fn number(rt: &impl Print, n: usize) -> io::Result<()> {
+    print!(rt; " {n}")
 }
 
-pub(crate) fn end() {
-    put(b"\n");
+pub(crate) fn byte(rt: &impl Print, b: u8) -> io::Result<()> {
+    print!(rt; " {b:02x}")
 }
 
-pub(crate) fn number(n: usize) {
-    put(b" ");
-    io::print_decimal(STDOUT_FILENO, n as u64);
+fn unit(rt: &impl Print, u: u16) -> io::Result<()> {
+    print!(rt; " {u:04x}")
 }
 
-pub(crate) fn byte(b: u8) {
-    put(b" ");
-    io::print_hex(STDOUT_FILENO, b as u64, 2);
-}
-
-fn unit(u: u16) {
-    put(b" ");
-    io::print_hex(STDOUT_FILENO, u as u64, 4);
-}
-
-fn code(c: u32) {
-    put(b" ");
-    io::print_hex(STDOUT_FILENO, c as u64, 6);
-}
-
-fn entry(n: u32) {
-    number(n as usize);
+fn code(rt: &impl Print, c: u32) -> io::Result<()> {
+    print!(rt; " {c:06x}")
 }
 
 // ---- texts, and so many of the first elements of an output
 
-fn first_bytes(text: &[u8], n: usize) {
-    let mut k: usize = 0;
-    while k < text.len() {
-        if k == n {
-            return;
-        }
-        byte(text[k]);
-        k += 1;
+fn first_bytes(rt: &impl Print, text: &[u8], n: usize) -> io::Result<()> {
+    for b in text.iter().take(n) {
+        byte(rt, *b)?;
     }
+    Ok(())
 }
 
-fn first_units(text: &[u16], n: usize) {
-    let mut k: usize = 0;
-    while k < text.len() {
-        if k == n {
-            return;
-        }
-        unit(text[k]);
-        k += 1;
+fn first_units(rt: &impl Print, text: &[u16], n: usize) -> io::Result<()> {
+    for u in text.iter().take(n) {
+        unit(rt, *u)?;
     }
+    Ok(())
 }
 
-fn first_points(text: &[u32], n: usize) {
-    let mut k: usize = 0;
-    while k < text.len() {
-        if k == n {
-            return;
-        }
-        code(text[k]);
-        k += 1;
+fn first_points(rt: &impl Print, text: &[u32], n: usize) -> io::Result<()> {
+    for c in text.iter().take(n) {
+        code(rt, *c)?;
     }
+    Ok(())
 }
 
-pub(crate) fn bytes(text: &[u8]) {
-    first_bytes(text, text.len());
+pub(crate) fn bytes(rt: &impl Print, text: &[u8]) -> io::Result<()> {
+    first_bytes(rt, text, text.len())
 }
 
-fn list(row: &[u32]) {
-    let mut k: usize = 0;
-    while k < row.len() {
-        entry(row[k]);
-        k += 1;
+fn list(rt: &impl Print, row: &[u32]) -> io::Result<()> {
+    for n in row {
+        print!(rt; " {n}")?;
     }
+    Ok(())
 }
 
-pub(crate) fn list_line(row: &[u32]) {
-    list(row);
-    end();
+pub(crate) fn list_line(rt: &impl Print, row: &[u32]) -> io::Result<()> {
+    list(rt, row)?;
+    println!(rt)
 }
 
 // ---- what is asked
 
-pub(crate) fn of_bytes(name: &[u8], text: &[u8]) {
-    put(name);
-    bytes(text);
-    put(b" ->");
+pub(crate) fn of_bytes(rt: &impl Print, name: &str, text: &[u8]) -> io::Result<()> {
+    print!(rt; "{name}")?;
+    bytes(rt, text)?;
+    print!(rt; " ->")
 }
 
-pub(crate) fn of_units(name: &[u8], text: &[u16]) {
-    put(name);
-    first_units(text, text.len());
-    put(b" ->");
+pub(crate) fn of_units(rt: &impl Print, name: &str, text: &[u16]) -> io::Result<()> {
+    print!(rt; "{name}")?;
+    first_units(rt, text, text.len())?;
+    print!(rt; " ->")
 }
 
-pub(crate) fn of_points(name: &[u8], text: &[u32]) {
-    put(name);
-    first_points(text, text.len());
-    put(b" ->");
+pub(crate) fn of_points(rt: &impl Print, name: &str, text: &[u32]) -> io::Result<()> {
+    print!(rt; "{name}")?;
+    first_points(rt, text, text.len())?;
+    print!(rt; " ->")
 }
 
-pub(crate) fn of_number(name: &[u8], n: usize) {
-    put(name);
-    number(n);
-    put(b" ->");
+pub(crate) fn of_number(rt: &impl Print, name: &str, n: usize) -> io::Result<()> {
+    print!(rt; "{name} {n} ->")
 }
 
 // ---- what came
 
 // A refusal: its number, then its values.
-pub(crate) fn refused(r: Refusal) {
-    put(b" refused");
-    number(r.number());
+pub(crate) fn refused(rt: &impl Print, r: Refusal) -> io::Result<()> {
+    print!(rt; " refused {}", r.number())?;
     match r {
         Refusal::Damaged {
             start,
             length,
             cause,
-        } => {
-            number(start);
-            number(length);
-            number(cause as usize);
-        }
-        Refusal::NoRoom { needed } => number(needed),
-        Refusal::Unusable { checkpoint } => number(checkpoint),
-        Refusal::NoScalar { position } => number(position),
-        Refusal::NotInPage { offset } => number(offset),
-        _ => {}
+        } => print!(rt; " {start} {length} {cause}"),
+        Refusal::NoRoom { needed } => number(rt, needed),
+        Refusal::Unusable { checkpoint } => number(rt, checkpoint),
+        Refusal::NoScalar { position } => number(rt, position),
+        Refusal::NotInPage { offset } => number(rt, offset),
+        _ => Ok(()),
     }
 }
 
 // What stands first: its size, and why it is damaged.
-pub(crate) fn first(f: First) {
+pub(crate) fn first(rt: &impl Print, f: First) -> io::Result<()> {
     match f {
         First::Nothing => {}
-        First::Whole(_) => put(b" whole"),
-        First::Damage(_, _) => put(b" damage"),
-        First::Begun(_) => put(b" begun"),
+        First::Whole(_) => print!(rt; " whole")?,
+        First::Damage(_, _) => print!(rt; " damage")?,
+        First::Begun(_) => print!(rt; " begun")?,
     }
-    number(f.size());
-    number(f.cause() as usize);
+    print!(rt; " {} {}", f.size(), f.cause())
 }
 
 // A code point and its size.
-pub(crate) fn point(p: Point) {
-    code(p.number);
-    number(p.size);
+pub(crate) fn point(rt: &impl Print, p: Point) -> io::Result<()> {
+    code(rt, p.number)?;
+    number(rt, p.size)
 }
 
-pub(crate) fn checked(c: Checked) {
+pub(crate) fn checked(rt: &impl Print, c: Checked) -> io::Result<()> {
     match c {
-        Checked::WellFormed => put(b" well-formed"),
-        Checked::Refused(r) => refused(r),
+        Checked::WellFormed => print!(rt; " well-formed")?,
+        Checked::Refused(r) => refused(rt, r)?,
     }
-    end();
+    println!(rt)
 }
 
-pub(crate) fn wrote_bytes(answer: Written, out: [u8; 64]) {
+pub(crate) fn wrote_bytes(rt: &impl Print, answer: Written, out: &[u8]) -> io::Result<()> {
     match answer {
-        Written::Count(n) => first_bytes(&out, n),
-        Written::Refused(r) => refused(r),
+        Written::Count(n) => first_bytes(rt, out, n)?,
+        Written::Refused(r) => refused(rt, r)?,
     }
-    end();
+    println!(rt)
 }
 
-pub(crate) fn wrote_units(answer: Written, out: [u16; 64]) {
+pub(crate) fn wrote_units(rt: &impl Print, answer: Written, out: &[u16]) -> io::Result<()> {
     match answer {
-        Written::Count(n) => first_units(&out, n),
-        Written::Refused(r) => refused(r),
+        Written::Count(n) => first_units(rt, out, n)?,
+        Written::Refused(r) => refused(rt, r)?,
     }
-    end();
+    println!(rt)
 }
 
-pub(crate) fn wrote_points(answer: Written, out: [u32; 64]) {
+pub(crate) fn wrote_points(rt: &impl Print, answer: Written, out: &[u32]) -> io::Result<()> {
     match answer {
-        Written::Count(n) => first_points(&out, n),
-        Written::Refused(r) => refused(r),
+        Written::Count(n) => first_points(rt, out, n)?,
+        Written::Refused(r) => refused(rt, r)?,
     }
-    end();
+    println!(rt)
 }
