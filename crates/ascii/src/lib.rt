@@ -1,5 +1,6 @@
 // How many bytes at the start of a text are below 0x80, a block of 64 at a time.
 #![tactic(auto)]
+
 ghost use Rattle.std.specs.Prelude.{◌≡◌, ◌≤◌, max, length, leb};
 ghost use Rattle.ascii.specs.Ascii.{leading, run_of};
 

@@ -1,5 +1,6 @@
 // Code points: the segment and the code point that stand first in a text of numbers, and the strict check.
 #![tactic(auto)]
+
 ghost use Rattle.std.specs.Prelude.{◌≡◌, [], ◌∷◌};
 ghost use Rattle.terms.specs.Form.{is_scalar, point_says};
 ghost use Rattle.terms.specs.Told.{told_first, first_says, told_checked};

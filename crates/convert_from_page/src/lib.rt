@@ -1,5 +1,6 @@
 // A whole text of an old page as UTF-8 bytes, into a lent output.
 #![tactic(auto)]
+
 ghost use Rattle.std.specs.Prelude.{◌≤◌, length};
 ghost use Rattle.terms.specs.Form.{converted};
 ghost use Rattle.terms.specs.Limits.{limit};

@@ -1,5 +1,6 @@
 // A whole text of UTF-16 units in the other forms, strict and repairing, and its repair, into a lent output.
 #![tactic(auto)]
+
 ghost use Rattle.std.specs.Prelude.{◌≡◌, true, ◌≤◌, ◌<◌, length};
 ghost use Rattle.terms.specs.Limits.{limit};
 ghost use Rattle.terms.specs.Form.{is_scalar, repaired, converted};

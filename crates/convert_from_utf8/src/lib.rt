@@ -1,5 +1,6 @@
 // A whole text of UTF-8 bytes in the other forms, strict and repairing, into a lent output.
 #![tactic(auto)]
+
 ghost use Rattle.std.specs.Prelude.{◌≡◌, ◌≤◌, length};
 ghost use Rattle.terms.specs.Form.{converted};
 ghost use Rattle.terms.specs.Strict.{damaged};

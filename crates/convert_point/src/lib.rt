@@ -1,6 +1,7 @@
 // A code point in each form: how many places it takes, and its elements at the start of an output; and the most places that a
 // text can take.
 #![tactic(auto)]
+
 ghost use Rattle.std.specs.Prelude.{◌≡◌, length};
 ghost use Rattle.utf8.specs.Scalar.{sequence, utf8};
 ghost use Rattle.utf16.specs.Scalar.{pair, utf16};

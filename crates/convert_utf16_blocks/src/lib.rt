@@ -1,5 +1,6 @@
 // Units that stand alone as UTF-8 bytes, a block of 128 at a time: how many bytes they take, and the bytes at the start of an output.
 #![tactic(auto)]
+
 ghost use Rattle.std.specs.Prelude.{◌≡◌, ◌++◌, ◌%◌, ◌≤◌, length, drop};
 ghost use Rattle.utf8.specs.Scalar.{sequence, later};
 ghost use Rattle.convert_utf16_blocks.specs.Block.{block, roomy, bytes_of, Counts, Puts};

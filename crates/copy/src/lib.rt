@@ -1,5 +1,6 @@
 // A text copied to the start of an output, in blocks of sixteen bytes.
 #![tactic(auto)]
+
 ghost use Rattle.std.specs.Prelude.{◌≡◌, ◌++◌, ◌≤◌, min, length, take, drop};
 
 // The lower of two numbers.

@@ -1,5 +1,6 @@
 // Repair of a byte text that comes in pieces, with a list of its damages.
 #![tactic(auto)]
+
 ghost use Rattle.std.specs.Prelude.{◌≡◌, ◌+◌, [], ◌∷◌, length};
 ghost use Rattle.terms.specs.Told.{told_first, first_says};
 ghost use Rattle.utf8.specs.Bytes.{bytes};

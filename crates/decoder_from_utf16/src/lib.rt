@@ -1,5 +1,6 @@
 // Repair of a text of UTF-16 units that comes in pieces, written as UTF-8 bytes, with a list of its damages.
 #![tactic(auto)]
+
 ghost use Rattle.std.specs.Prelude.{◌≡◌, ◌+◌, [], ◌∷◌, ◌++◌, length, take};
 ghost use Rattle.theory.specs.Reader.{parts};
 ghost use Rattle.terms.specs.Told.{size_of, told_written};

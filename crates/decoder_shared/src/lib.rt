@@ -1,5 +1,6 @@
 // What the decoders share: the checks before a call, an entry in the list of damages; and the laws of their calls, over any form.
 #![tactic(auto)]
+
 ghost use Rattle.std.specs.Prelude.{◌≡◌};
 ghost use Rattle.decoder_shared.specs.Entry.{entered};
 ghost use Rattle.decoder_shared.specs.Checks.{admission, checks};

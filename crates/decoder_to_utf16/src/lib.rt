@@ -1,5 +1,6 @@
 // Repair of a text of UTF-8 bytes that comes in pieces, written as UTF-16 units, with a list of its damages. The state is the byte decoder's.
 #![tactic(auto)]
+
 ghost use Rattle.std.specs.Prelude.{◌≡◌, ◌+◌, [], ◌∷◌, ◌++◌, length};
 ghost use Rattle.theory.specs.Reader.{parts};
 ghost use Rattle.terms.specs.Told.{told_first, first_says, size_of, told_written};

@@ -1,5 +1,6 @@
 // The recorder's watch: it takes one byte at a time, changes the lent state in place, and writes no text and no list.
 #![tactic(auto)]
+
 ghost use Rattle.std.specs.Prelude.{◌≡◌};
 ghost use Rattle.decoder_watch.specs.Watching.{refusing, watching};
 

@@ -1,5 +1,6 @@
 // There and back: what two strict conversions granted is the text, and a refusal was due.
 #![tactic(auto)]
+
 ghost use Rattle.std.specs.Prelude.{◌≡◌, length};
 ghost use Rattle.terms.specs.Strict.{damaged, check_says};
 ghost use Rattle.terms.specs.Told.{told_refusal, told_checked, is_granted};

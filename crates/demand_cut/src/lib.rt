@@ -1,5 +1,6 @@
 // Cutting by the count of a place gives exactly the text before that place.
 #![tactic(auto)]
+
 ghost use Rattle.std.specs.Prelude.{◌≡◌, true};
 ghost use Rattle.demand_cut.specs.Inside.Cuttings.{FoundIn};
 

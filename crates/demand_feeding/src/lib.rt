@@ -1,5 +1,6 @@
 // Feeding: the way of a text through any decoder, at once or in pieces. What was found is compared, and a refusal must be due.
 #![tactic(auto)]
+
 ghost use Rattle.std.specs.Prelude.{◌≡◌};
 ghost use Rattle.terms.specs.Told.{told_refusal};
 ghost use Rattle.demand_feeding.specs.Comparing.{due, enough, same_totals, found_alike};

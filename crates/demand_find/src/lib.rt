@@ -1,5 +1,6 @@
 // A phrase that is sought: both searches answer alike, and where it is found the bytes are its own and lookups grant.
 #![tactic(auto)]
+
 ghost use Rattle.std.specs.Prelude.{◌≡◌, true};
 ghost use Rattle.demand_shared.specs.Equal.{equal};
 ghost use Rattle.find.specs.Match.{told_match};

@@ -1,5 +1,6 @@
 // Lookup in an index that was built in any pieces answers as plain lookup.
 #![tactic(auto)]
+
 ghost use Rattle.std.specs.Prelude.{◌≡◌, true};
 ghost use Rattle.index_lookup.specs.Agreeing.{AsPlain};
 ghost use Rattle.demand_index.specs.Builds.{built};

@@ -1,5 +1,6 @@
 // Old pages, there and back: what two conversions granted is the text, and a refusal was due.
 #![tactic(auto)]
+
 ghost use Rattle.std.specs.Prelude.{◌≡◌, [], ◌∷◌, length};
 ghost use Rattle.terms.specs.Strict.{check_says};
 ghost use Rattle.terms.specs.Told.{told_refusal, told_checked};

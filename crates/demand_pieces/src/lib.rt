@@ -1,5 +1,6 @@
 // Pieces: fed in any pieces and finished, a text gives what its whole repair writes, and the entries and totals of one feed.
 #![tactic(auto)]
+
 ghost use Rattle.std.specs.Prelude.{◌≡◌, ◌≤◌, true, [], ◌∷◌, length};
 ghost use Rattle.terms.specs.Limits.{limit};
 ghost use Rattle.decoder.specs.State.{byte_decoding};

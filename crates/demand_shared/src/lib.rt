@@ -1,5 +1,6 @@
 // What the demands share: cut positions brought into a text, the smaller of two numbers, texts and answers compared.
 #![tactic(auto)]
+
 ghost use Rattle.std.specs.Prelude.{◌≡◌, min};
 ghost use Rattle.demand_shared.specs.Cuts.{bring};
 ghost use Rattle.demand_shared.specs.Equal.{equal};

@@ -1,6 +1,7 @@
 // Pieces into units: fed in any pieces and finished, a text of bytes gives what its whole repair writes as units, and the entries and totals
 // of one feed.
 #![tactic(auto)]
+
 ghost use Rattle.std.specs.Prelude.{◌≡◌, ◌≤◌, true, [], length};
 ghost use Rattle.terms.specs.Limits.{limit};
 ghost use Rattle.decoder_shared.specs.Decoding.{fresh};

@@ -1,5 +1,6 @@
 // The watch: byte by byte from the fresh state, it comes to the state and the count of one feed of the whole.
 #![tactic(auto)]
+
 ghost use Rattle.std.specs.Prelude.{◌≡◌};
 ghost use Rattle.terms.specs.Limits.{fresh_of};
 ghost use Rattle.decoder_watch.specs.Watching.{counting};

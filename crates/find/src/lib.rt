@@ -1,5 +1,6 @@
 // Where a needle first stands in an entry: the plain search, the two-way search, and the entry from the match to its end.
 #![tactic(auto)]
+
 ghost use Rattle.std.specs.Prelude.{◌≡◌};
 ghost use Rattle.terms.specs.Told.{told_checked};
 ghost use Rattle.terms.specs.Strict.{limited, check_says};

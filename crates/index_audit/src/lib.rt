@@ -1,5 +1,6 @@
 // The audit of an index.
 #![tactic(auto)]
+
 ghost use Rattle.std.specs.Prelude.{◌≡◌};
 ghost use Rattle.place.specs.Lookup.{four_counts};
 ghost use Rattle.index_checkpoint.specs.Checkpoints.{checkpoint};

@@ -1,5 +1,6 @@
 // The builder of an index from a byte text that comes in pieces.
 #![tactic(auto)]
+
 ghost use Rattle.std.specs.Prelude.{◌≡◌, ◌+◌, ◌≤◌, length};
 ghost use Rattle.theory.specs.Index.{start_marked};
 ghost use Rattle.utf8.specs.Bytes.{bytes};

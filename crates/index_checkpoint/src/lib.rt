@@ -1,5 +1,6 @@
 // Checkpoints of an index: reading and writing one, the choice among them by halving, and whether one is usable.
 #![tactic(auto)]
+
 ghost use Rattle.std.specs.Prelude.{◌≡◌, get_or};
 ghost use Rattle.theory.specs.Index.{marks, usable};
 ghost use Rattle.place.specs.Measures.{ruler, reader, longest};

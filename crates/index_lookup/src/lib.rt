@@ -1,5 +1,6 @@
 // The index of a byte text: lookup in it, whatever its numbers are.
 #![tactic(auto)]
+
 ghost use Rattle.std.specs.Prelude.{◌≡◌, leb, ltb};
 ghost use Rattle.place.specs.Lookup.{told_placed};
 ghost use Rattle.place.specs.Walk.{number, measure};

@@ -1,5 +1,6 @@
 // Old single-byte pages: the number that each byte of a page stands for.
 #![tactic(auto)]
+
 ghost use Rattle.std.specs.Prelude.{◌≡◌};
 ghost use Rattle.page.specs.Tables.{table_of};
 

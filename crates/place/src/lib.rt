@@ -1,5 +1,6 @@
 // Places: the boundaries of a byte text, with what lies before them in the four measures, and the step from one to the next.
 #![tactic(auto)]
+
 ghost use Rattle.std.specs.Prelude.{◌≡◌};
 ghost use Rattle.utf8.specs.Classes.{by_classes};
 ghost use Rattle.place.specs.Measures.{place};

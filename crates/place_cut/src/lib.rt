@@ -1,5 +1,6 @@
 // Cutting: the last place that counts at most so much, and the longest beginning of a text that ends there.
 #![tactic(auto)]
+
 ghost use Rattle.std.specs.Prelude.{◌≡◌};
 ghost use Rattle.utf8.specs.Bytes.{bytes};
 ghost use Rattle.utf8.specs.Classes.{by_classes};

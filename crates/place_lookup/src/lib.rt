@@ -1,5 +1,6 @@
 // Plain lookup: the place that an offset counts, from the start of a text or from a place on.
 #![tactic(auto)]
+
 ghost use Rattle.std.specs.Prelude.{◌≡◌};
 ghost use Rattle.utf8.specs.Bytes.{bytes};
 ghost use Rattle.utf8.specs.Classes.{by_classes};

@@ -1,5 +1,6 @@
 // The terms in which every call answers: the limits, what stands first in a text, and the refusals by their numbers.
 #![tactic(auto)]
+
 ghost use Rattle.std.specs.Prelude.{◌≡◌, [], ◌∷◌, get_or};
 ghost use Rattle.terms.specs.Limits.{fresh_of};
 ghost use Rattle.terms.specs.Told.{size_of, cause_told, told_refusal, told_checked};

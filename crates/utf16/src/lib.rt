@@ -1,5 +1,6 @@
 // UTF-16: the segment and the code point that stand first in a text of units, and whether all of them stand by themselves.
 #![tactic(auto)]
+
 ghost use Rattle.std.specs.Prelude.{◌≡◌, not, [], ◌∷◌};
 ghost use Rattle.terms.specs.Told.{bit, told_first, first_says};
 ghost use Rattle.terms.specs.Form.{point_says};

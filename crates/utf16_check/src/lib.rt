@@ -1,5 +1,6 @@
 // Strict reading of UTF-16: the check, which passes over blocks of units that stand in pairs.
 #![tactic(auto)]
+
 ghost use Rattle.std.specs.Prelude.{◌≡◌, true, ◌≤◌, length};
 ghost use Rattle.terms.specs.Told.{bit, told_checked};
 ghost use Rattle.terms.specs.Strict.{check_says};

@@ -1,5 +1,6 @@
 // Strict reading of UTF-8: the whole segments before the first damage of a byte text, and the check.
 #![tactic(auto)]
+
 ghost use Rattle.std.specs.Prelude.{◌≡◌};
 ghost use Rattle.terms.specs.Told.{told_checked};
 ghost use Rattle.terms.specs.Strict.{check_says};

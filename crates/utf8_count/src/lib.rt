@@ -1,6 +1,7 @@
 // Counts over a byte text, a block of 128 at a time: bytes that are no later bytes, bytes of 0xF0 or more, and
 // line ends.
 #![tactic(auto)]
+
 mod lines;
 
 ghost use Rattle.std.specs.Prelude.{◌≡◌, ◌≤◌, length, take};

@@ -1,5 +1,6 @@
 // The pending bytes of a state that takes a byte text in pieces.
 #![tactic(auto)]
+
 ghost use Rattle.std.specs.Prelude.{◌≡◌, ◌++◌, min, ◌≤◌, get_or, take};
 ghost use Rattle.terms.specs.Limits.{most_pending};
 ghost use Rattle.utf8.specs.Bytes.{bytes};

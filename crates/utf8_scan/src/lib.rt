@@ -1,6 +1,7 @@
 // How many bytes at the start of a text stand well, a block at a time: each byte is tested with the three before it, by plain
 // arithmetic that a compiler turns into vector instructions.
 #![tactic(auto)]
+
 ghost use Rattle.std.specs.Prelude.{◌≡◌, true, ◌&&◌, ◌||◌, cond, ℕ, suc, ◌+◌, ◌-◌, ◌<◌, ◌≤◌, length, leb};
 ghost use Rattle.utf8_scan.specs.Stands.{is_later, stands, standing};
 ghost use Rattle.utf8_scan.specs.Inside.Blocks.{Stand, Below, Ascii, Good};

@@ -1,5 +1,6 @@
 // The two routines that the workshop viewer links: check and repair of a byte text, which reply in numbers.
 #![tactic(auto)]
+
 ghost use Rattle.std.specs.Prelude.{◌≡◌};
 ghost use Rattle.terms.specs.Told.{told_refusal};
 ghost use Rattle.viewer.specs.Replies.{Small, check_number, check_reply, repair_number, Repairs};

@@ -29,11 +29,10 @@ slice_bounds-write_both-end c =
     sym (length-take-le c.tally_both-all.result.size c.args.rest.now (inside (goal.at.slice_bounds-write_both-end c).After-tally_both-all))
 
 pub write_both-requires : goal.write_both-requires
-write_both-requires c =
-    (
-      omega (arith, c.requires.sums),
-      omega (arith, c.requires.sums, inside (goal.at.write_both-requires c).After-tally_both-all, length-take-le c.tally_both-all.result.size c.args.rest.now (inside (goal.at.write_both-requires c).After-tally_both-all)),
-    )
+write_both-requires c = (
+  omega (arith, c.requires.sums),
+  omega (arith, c.requires.sums, inside (goal.at.write_both-requires c).After-tally_both-all, length-take-le c.tally_both-all.result.size c.args.rest.now (inside (goal.at.write_both-requires c).After-tally_both-all)),
+)
 
 pub enter_both-requires : goal.enter_both-requires
 enter_both-requires c =

@@ -6,4 +6,3 @@ returns-in-NotInPage c = rw (c.in-NotInPage.is, c.accepted.ensures)
 
 pub returns-in-NoRoom : goal.returns-in-NoRoom
 returns-in-NoRoom c = rw (c.in-NoRoom.is, c.accepted-in-NoRoom.ensures)
-

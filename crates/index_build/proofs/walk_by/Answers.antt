@@ -29,8 +29,8 @@ pub stretch-q-requires : goal.stretch-q-requires
 stretch-q-requires c =
     record {
       stretches = record {
-      walks = rw part_is (walked-walks c.args.text.now c.args.from c.args.row.now c.requires.walks c.loop-p.invariant.0);
-      some = c.loop-p.invariant.1;
+        walks = rw part_is (walked-walks c.args.text.now c.args.from c.args.row.now c.requires.walks c.loop-p.invariant.0);
+        some = c.loop-p.invariant.1;
       };
       classes_value = c.requires.classes_value;
     }

@@ -32,8 +32,8 @@ here : (c : Joined-block-at) → Clean units c.args.text.now c.if-block-at.at
 here c =
     let t = c.args.text.now in
     elim c.if-block-at.branch [
-      then-block-at w ↦ rw w.at-is (clean_to t c.loop-block.at w.whole_blocks-at.result c.loop-block.invariant (rw part_is at w.whole_blocks-at.ensures))
-    | else-block-at w ↦ rw w.at-is c.loop-block.invariant
+      | then-block-at w ↦ rw w.at-is (clean_to t c.loop-block.at w.whole_blocks-at.result c.loop-block.invariant (rw part_is at w.whole_blocks-at.ensures))
+      | else-block-at w ↦ rw w.at-is c.loop-block.invariant
     ]
 
 onward : (c : Joined-block-at) → c.loop-block.at ≤ c.if-block-at.at

@@ -16,12 +16,11 @@ overflow_add-fours c =
     omega (arith, c.loop-k.invariant.1.fours-few, c.four_of-fours.ensures, four-few (get_or c.args.text.now c.loop-k.k 0))
 
 pub loop-k-preserved : goal.loop-k-preserved
-loop-k-preserved c =
-    (
-      omega arith,
-      rw (c.start_of-starts.ensures, c.four_of-fours.ensures)
-          (counted_next c.args.text.now c.loop-k.k c.loop-k.starts c.loop-k.fours c.loop-k.invariant.1 (omega arith)),
-    )
+loop-k-preserved c = (
+  omega arith,
+  rw (c.start_of-starts.ensures, c.four_of-fours.ensures)
+      (counted_next c.args.text.now c.loop-k.k c.loop-k.starts c.loop-k.fours c.loop-k.invariant.1 (omega arith)),
+)
 
 pub returns : goal.returns
 returns c =

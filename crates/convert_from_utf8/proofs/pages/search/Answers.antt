@@ -13,12 +13,11 @@ returns-then-wide-c c =
     ∙ sym c.loop-place.invariant.1
 
 pub loop-place-preserved : goal.loop-place-preserved
-loop-place-preserved c =
-    (
-      omega (arith, c.loop-place-test.true),
-      c.loop-place.invariant.1
-          ∙ search-next c.args.c c.args.numbers.now c.loop-place.place (omega (arith, c.requires.0, c.loop-place-test.true)) (λ e. c.if-wide-c.false (c.wide.ensures ∙ e)),
-    )
+loop-place-preserved c = (
+  omega (arith, c.loop-place-test.true),
+  c.loop-place.invariant.1
+      ∙ search-next c.args.c c.args.numbers.now c.loop-place.place (omega (arith, c.requires.0, c.loop-place-test.true)) (λ e. c.if-wide-c.false (c.wide.ensures ∙ e)),
+)
 
 pub returns : goal.returns
 returns c =

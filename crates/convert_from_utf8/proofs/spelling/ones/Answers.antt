@@ -38,11 +38,10 @@ bounds-out-at c =
     omega (arith, room_for c.args.text.now c.args.out.now c.requires.text_in_bounds c.loop-at.out c.loop-at.at c.loop-at.at c.loop-at.invariant.0 1 (c.wide.result ∷ []) (here c))
 
 pub loop-at-preserved : goal.loop-at-preserved
-loop-at-preserved c =
-    (
-      stored_one c.args.text.now c.args.out.now c.requires.text_in_bounds c.loop-at.out c.loop-at.at c.loop-at.at c.loop-at.invariant.0 1 c.wide.result (here c),
-      omega (arith, c.loop-at-test.true),
-    )
+loop-at-preserved c = (
+  stored_one c.args.text.now c.args.out.now c.requires.text_in_bounds c.loop-at.out c.loop-at.at c.loop-at.at c.loop-at.invariant.0 1 c.wide.result (here c),
+  omega (arith, c.loop-at-test.true),
+)
 
 pub shape_of-out : goal.shape_of-out
 shape_of-out c = c.loop-at.invariant.0.long

@@ -126,9 +126,8 @@ loop-pace-smaller c =
     (omega (arith, c.if-size-eq0.false))
 
 pub loop-pace-preserved : goal.loop-pace-preserved
-loop-pace-preserved c =
-    (
-      c.count-tally.auto.list ∙ c.loop-pace.invariant.0,
-      subst (λ (rest : List ℕ). Left c.args.room c.args.text.now (entry (goal.at.loop-pace-preserved c).At-loop-pace) rest (log_of c.pass-tally.result c.count-tally.new.list))
-          (sym (lent_both c.loop-pace.rest.now c.settled_size-size.result c.paced_run-run.result)) (ran (goal.at.loop-pace-preserved c).After-pass-tally),
-    )
+loop-pace-preserved c = (
+  c.count-tally.auto.list ∙ c.loop-pace.invariant.0,
+  subst (λ (rest : List ℕ). Left c.args.room c.args.text.now (entry (goal.at.loop-pace-preserved c).At-loop-pace) rest (log_of c.pass-tally.result c.count-tally.new.list))
+      (sym (lent_both c.loop-pace.rest.now c.settled_size-size.result c.paced_run-run.result)) (ran (goal.at.loop-pace-preserved c).After-pass-tally),
+)

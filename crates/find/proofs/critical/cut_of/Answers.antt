@@ -20,10 +20,10 @@ chosen c =
     let g = c.greatest-g in
     let bytes = c.type_inv.needle in
     elim c.if-l-g.branch [
-      then-l-g w ↦ subst₂ (Critical (at s) (length s)) (sym w.l-is) (sym w.p-is)
+      | then-l-g w ↦ subst₂ (Critical (at s) (length s)) (sym w.l-is) (sym w.p-is)
           (critical (at s) (length s) (λ i. omega (arith, bytes i)) true
           g.result.start g.result.period f.result.start f.result.period g.ensures f.ensures (omega arith))
-    | else-l-g w ↦ subst₂ (Critical (at s) (length s)) (sym w.l-is) (sym w.p-is)
+      | else-l-g w ↦ subst₂ (Critical (at s) (length s)) (sym w.l-is) (sym w.p-is)
           (critical (at s) (length s) (λ i. omega (arith, bytes i)) false
           f.result.start f.result.period g.result.start g.result.period f.ensures g.ensures (omega arith))
     ]
@@ -47,9 +47,9 @@ none : (c : Joined-l-p)
 none c h e =
     let s = c.args.needle.now in
     elim c.if-l-p.branch [
-      then-l-p+else-l-agree w ↦ w.agree.ensures.other (omega arith)
+      | then-l-p+else-l-agree w ↦ w.agree.ensures.other (omega arith)
           (ap (at s) (omega arith) ∙ sym (e w.agree.result (omega arith) (omega arith) (omega (arith, h.inside))))
-    | else-l-p w ↦ omega (arith, h.long c.if-l-g.p h.some e)
+      | else-l-p w ↦ omega (arith, h.long c.if-l-g.p h.some e)
     ]
 
 pub overflow_sub-m : goal.overflow_sub-m

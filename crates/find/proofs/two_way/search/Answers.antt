@@ -34,8 +34,8 @@ walk-requires c =
     record {
       cut = c.cut_of.ensures;
       rare = (
-      c.rarest_two-rare.ensures,
-      walked-passed _ _ _ _ (omega (arith, room (goal.at.walk-requires c).Else-n-at))
-      (walked_one _ _ _ _ (here (goal.at.walk-requires c).After-onward-at) (room (goal.at.walk-requires c).Else-n-at) c.agree.result c.if-m-agree.false (c.agree.ensures.other c.if-m-agree.false) c.requires),
+        c.rarest_two-rare.ensures,
+        walked-passed _ _ _ _ (omega (arith, room (goal.at.walk-requires c).Else-n-at))
+            (walked_one _ _ _ _ (here (goal.at.walk-requires c).After-onward-at) (room (goal.at.walk-requires c).Else-n-at) c.agree.result c.if-m-agree.false (c.agree.ensures.other c.if-m-agree.false) c.requires),
       );
     }
