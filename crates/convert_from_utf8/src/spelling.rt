@@ -1,5 +1,5 @@
 // The units of a byte text whose segments are known to be whole: a first byte alone says what stands there.
-ghost use Rattle.std.specs.Prelude.{◌≡◌, [], ◌++◌, ◌≤◌, ◌<◌, min, length, drop, get_or};
+ghost use Rattle.std.specs.Prelude.{◌≡◌, true, [], ◌++◌, ◌≤◌, ◌<◌, min, length, drop, get_or};
 ghost use Rattle.ascii.specs.Ascii.{Ascii};
 ghost use Rattle.terms.specs.Form.{converted};
 ghost use Rattle.terms.specs.Strict.{damages};
@@ -67,6 +67,13 @@ pub(crate) fn lower(a: usize, b: usize) -> usize
     ensures { result ≡ min a b }
 {
     if a < b { a } else { b }
+}
+
+// At least both of them.
+fn larger(a: u8, b: u8) -> u8
+    ensures { (a ≤ result) × (b ≤ result) }
+{
+    if a < b { b } else { a }
 }
 
 // Sequences of one byte, at most 32 of them.
@@ -213,6 +220,32 @@ fn alike(text: &[u8], out: &mut [u16]) -> Reach
     fours(text, out)
 }
 
+// Are the first 64 bytes below 0x80?
+fn is_ascii(text: &[u8]) -> bool
+    requires { 64 ≤ length text.now }
+    ensures { result ≡ true → Ascii text.now 64 }
+{
+    let mut top: u8 = 0;
+    for k in 0..64 {
+        top = larger(top, text[k]);
+    }
+    top < 0x80
+}
+
+// So many bytes at the start are below 0x80, by whole blocks.
+fn ascii_run(text: &[u8]) -> usize
+    ensures { (result ≤ length text.now) × Ascii text.now result }
+{
+    let mut at: usize = 0;
+    while 64 <= text.len() - at {
+        if !is_ascii(&text[at..]) {
+            return at;
+        }
+        at += 64;
+    }
+    at
+}
+
 // So many bytes at the start are below 0x80, by whole blocks; none are looked for where they are not expected.
 fn expected_run(text: &[u8], ascii: bool) -> usize
     ensures { (result ≤ length text.now) × Ascii text.now result }
@@ -220,7 +253,7 @@ fn expected_run(text: &[u8], ascii: bool) -> usize
     if !ascii {
         return 0;
     }
-    ascii::run(text)
+    ascii_run(text)
 }
 
 // Sequences of one length, or a long run of bytes below 0x80 where one is expected.
