@@ -1,16 +1,16 @@
 // Texts of bytes: the calls of moxandril::bytes.
-use crate::show::{of_text, wrote};
+use crate::show::{of_bytes, wrote_bytes, wrote_points, wrote_units};
 use std::io;
 
 fn read(rt: &impl Print, text: &[u8]) -> io::Result<()> {
-    of_text(rt, "bytes::segment, point, check:", text)?;
+    of_bytes(rt, "bytes::segment, point, check:", text)?;
     crate::show::first(rt, moxandril::bytes::segment(text))?;
     crate::show::point(rt, moxandril::bytes::point(text))?;
     crate::show::checked(rt, moxandril::bytes::check(text))
 }
 
 fn read_by(rt: &impl Print, text: &[u8]) -> io::Result<()> {
-    of_text(rt, "bytes::segment_by, point_by:", text)?;
+    of_bytes(rt, "bytes::segment_by, point_by:", text)?;
     crate::show::first(
         rt,
         moxandril::bytes::segment_by(text, &moxandril::bytes::CLASSES),
@@ -24,30 +24,30 @@ fn read_by(rt: &impl Print, text: &[u8]) -> io::Result<()> {
 
 fn to_units(rt: &impl Print, text: &[u8]) -> io::Result<()> {
     let mut out = [0u16; 64];
-    of_text(rt, "bytes::to_units:", text)?;
+    of_bytes(rt, "bytes::to_units:", text)?;
     let answer = moxandril::bytes::to_units(text, &mut out);
-    wrote(rt, answer, &out)
+    wrote_units(rt, answer, &out)
 }
 
 fn to_points(rt: &impl Print, text: &[u8]) -> io::Result<()> {
     let mut out = [0u32; 64];
-    of_text(rt, "bytes::to_points:", text)?;
+    of_bytes(rt, "bytes::to_points:", text)?;
     let answer = moxandril::bytes::to_points(text, &mut out);
-    wrote(rt, answer, &out)
+    wrote_points(rt, answer, &out)
 }
 
 fn repair(rt: &impl Print, text: &[u8]) -> io::Result<()> {
     let mut out = [0u8; 64];
-    of_text(rt, "bytes::repair:", text)?;
+    of_bytes(rt, "bytes::repair:", text)?;
     let answer = moxandril::bytes::repair(text, &mut out);
-    wrote(rt, answer, &out)
+    wrote_bytes(rt, answer, &out)
 }
 
 fn repair_to_units(rt: &impl Print, text: &[u8]) -> io::Result<()> {
     let mut out = [0u16; 64];
-    of_text(rt, "bytes::repair_to_units:", text)?;
+    of_bytes(rt, "bytes::repair_to_units:", text)?;
     let answer = moxandril::bytes::repair_to_units(text, &mut out);
-    wrote(rt, answer, &out)
+    wrote_units(rt, answer, &out)
 }
 
 fn example(rt: &impl Print, text: &[u8]) -> io::Result<()> {

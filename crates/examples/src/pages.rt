@@ -1,20 +1,20 @@
 // Texts of old single-byte pages: the call of moxandril::pages, and the way back from bytes.
-use crate::show::{of_text, wrote};
+use crate::show::{of_bytes, wrote_bytes};
 use moxandril::pages::Page;
 use std::io;
 
 fn to_bytes(rt: &impl Print, name: &str, text: &[u8], page: Page) -> io::Result<()> {
     let mut out = [0u8; 64];
-    of_text(rt, name, text)?;
+    of_bytes(rt, name, text)?;
     let answer = moxandril::pages::to_bytes(text, page, &mut out);
-    wrote(rt, answer, &out)
+    wrote_bytes(rt, answer, &out)
 }
 
 fn to_page(rt: &impl Print, name: &str, text: &[u8], page: Page) -> io::Result<()> {
     let mut out = [0u8; 64];
-    of_text(rt, name, text)?;
+    of_bytes(rt, name, text)?;
     let answer = moxandril::bytes::to_page(text, page, &mut out);
-    wrote(rt, answer, &out)
+    wrote_bytes(rt, answer, &out)
 }
 
 // A text of bytes of a page, in each page.

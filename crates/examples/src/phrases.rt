@@ -1,5 +1,5 @@
 // Where a phrase stands in a text of bytes: the calls of moxandril::phrases.
-use crate::show::{elements, of_text};
+use crate::show::{bytes, of_bytes};
 use moxandril::phrases::Match;
 use std::io;
 
@@ -13,8 +13,8 @@ fn found(rt: &impl Print, m: Match) -> io::Result<()> {
 
 fn asked(rt: &impl Print, name: &str, entry: &[u8], needle: &[u8]) -> io::Result<()> {
     print!(rt; "{name}")?;
-    elements(rt, entry)?;
-    of_text(rt, ",", needle)
+    bytes(rt, entry)?;
+    of_bytes(rt, ",", needle)
 }
 
 fn example(rt: &impl Print, entry: &[u8], needle: &[u8]) -> io::Result<()> {
@@ -23,7 +23,7 @@ fn example(rt: &impl Print, entry: &[u8], needle: &[u8]) -> io::Result<()> {
     found(rt, moxandril::phrases::find_plain(entry, needle))?;
     println!(rt)?;
     asked(rt, "phrases::find_rest:", entry, needle)?;
-    elements(rt, moxandril::phrases::find_rest(entry, needle))?;
+    bytes(rt, moxandril::phrases::find_rest(entry, needle))?;
     println!(rt)
 }
 

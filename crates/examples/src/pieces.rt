@@ -21,8 +21,8 @@ fn start(rt: &impl Print, room: usize) -> io::Result<Decoder> {
 fn feed(rt: &impl Print, state: Decoder, piece: &[u8], list: &mut [u32]) -> io::Result<Decoder> {
     let mut out = [0u8; 64];
     let fed = moxandril::pieces::feed(state, piece, &mut out, list);
-    crate::show::of_text(rt, "pieces::feed:", piece)?;
-    crate::show::wrote(rt, fed.answer, &out)?;
+    crate::show::of_bytes(rt, "pieces::feed:", piece)?;
+    crate::show::wrote_bytes(rt, fed.answer, &out)?;
     Ok(fed.state)
 }
 

@@ -13,8 +13,8 @@ fn start(rt: &impl Print, room: usize) -> io::Result<Decoder> {
 fn feed(rt: &impl Print, state: Decoder, piece: &[u8], list: &mut [u32]) -> io::Result<Decoder> {
     let mut out = [0u16; 64];
     let fed = moxandril::pieces_to_units::feed(state, piece, &mut out, list);
-    crate::show::of_text(rt, "pieces_to_units::feed:", piece)?;
-    crate::show::wrote(rt, fed.answer, &out)?;
+    crate::show::of_bytes(rt, "pieces_to_units::feed:", piece)?;
+    crate::show::wrote_units(rt, fed.answer, &out)?;
     Ok(fed.state)
 }
 

@@ -1,5 +1,5 @@
 // Places in a text of bytes, and cutting: the calls of moxandril::places. A place is its bytes, units, code points and lines.
-use crate::show::{elements, of_number};
+use crate::show::{bytes, of_number};
 use moxandril::places::{Bytes, Lines, Offset, Place, Placed, Points, Units};
 use std::io;
 
@@ -12,7 +12,7 @@ pub(crate) fn found(rt: &impl Print, p: Placed) -> io::Result<()> {
 
 fn asked(rt: &impl Print, name: &str, text: &[u8], n: usize) -> io::Result<()> {
     print!(rt; "{name}")?;
-    elements(rt, text)?;
+    bytes(rt, text)?;
     of_number(rt, ",", n)
 }
 
@@ -27,13 +27,13 @@ fn lookups(rt: &impl Print, text: &[u8], n: usize) -> io::Result<()> {
 
 fn cuts(rt: &impl Print, text: &[u8], n: usize) -> io::Result<()> {
     asked(rt, "places::cut_bytes:", text, n)?;
-    elements(rt, moxandril::places::cut_bytes(text, Bytes(n)))?;
+    bytes(rt, moxandril::places::cut_bytes(text, Bytes(n)))?;
     println!(rt)?;
     asked(rt, "places::cut_units:", text, n)?;
-    elements(rt, moxandril::places::cut_units(text, Units(n)))?;
+    bytes(rt, moxandril::places::cut_units(text, Units(n)))?;
     println!(rt)?;
     asked(rt, "places::cut_points:", text, n)?;
-    elements(rt, moxandril::places::cut_points(text, Points(n)))?;
+    bytes(rt, moxandril::places::cut_points(text, Points(n)))?;
     println!(rt)
 }
 

@@ -6,43 +6,43 @@ pub(crate) fn number(rt: &impl Print, n: usize) -> io::Result<()> {
     print!(rt; " {n}")
 }
 
-// What a text consists of, and how many hexadecimal digits one is printed in.
-pub(crate) trait Element: Copy + Into<u32> {
-    const DIGITS: usize;
+pub(crate) fn byte(rt: &impl Print, b: u8) -> io::Result<()> {
+    print!(rt; " {b:02x}")
 }
 
-// A byte.
-impl Element for u8 {
-    const DIGITS: usize = 2;
+fn unit(rt: &impl Print, u: u16) -> io::Result<()> {
+    print!(rt; " {u:04x}")
 }
 
-// A UTF-16 unit.
-impl Element for u16 {
-    const DIGITS: usize = 4;
-}
-
-// A code point.
-impl Element for u32 {
-    const DIGITS: usize = 6;
-}
-
-fn hexadecimal<T: Element>(rt: &impl Print, x: T) -> io::Result<()> {
-    let number: u32 = x.into();
-    let digits = T::DIGITS;
-    print!(rt; " {number:0digits$x}")
+fn code(rt: &impl Print, c: u32) -> io::Result<()> {
+    print!(rt; " {c:06x}")
 }
 
 // ---- texts, and so many of the first elements of an output
 
-fn first_elements<T: Element>(rt: &impl Print, text: &[T], n: usize) -> io::Result<()> {
-    for x in text.iter().take(n) {
-        hexadecimal(rt, *x)?;
+fn first_bytes(rt: &impl Print, text: &[u8], n: usize) -> io::Result<()> {
+    for b in text.iter().take(n) {
+        byte(rt, *b)?;
     }
     Ok(())
 }
 
-pub(crate) fn elements<T: Element>(rt: &impl Print, text: &[T]) -> io::Result<()> {
-    first_elements(rt, text, text.len())
+fn first_units(rt: &impl Print, text: &[u16], n: usize) -> io::Result<()> {
+    for u in text.iter().take(n) {
+        unit(rt, *u)?;
+    }
+    Ok(())
+}
+
+fn first_points(rt: &impl Print, text: &[u32], n: usize) -> io::Result<()> {
+    for c in text.iter().take(n) {
+        code(rt, *c)?;
+    }
+    Ok(())
+}
+
+pub(crate) fn bytes(rt: &impl Print, text: &[u8]) -> io::Result<()> {
+    first_bytes(rt, text, text.len())
 }
 
 fn list(rt: &impl Print, row: &[u32]) -> io::Result<()> {
@@ -59,9 +59,21 @@ pub(crate) fn list_line(rt: &impl Print, row: &[u32]) -> io::Result<()> {
 
 // ---- what is asked
 
-pub(crate) fn of_text<T: Element>(rt: &impl Print, name: &str, text: &[T]) -> io::Result<()> {
+pub(crate) fn of_bytes(rt: &impl Print, name: &str, text: &[u8]) -> io::Result<()> {
     print!(rt; "{name}")?;
-    elements(rt, text)?;
+    bytes(rt, text)?;
+    print!(rt; " ->")
+}
+
+pub(crate) fn of_units(rt: &impl Print, name: &str, text: &[u16]) -> io::Result<()> {
+    print!(rt; "{name}")?;
+    first_units(rt, text, text.len())?;
+    print!(rt; " ->")
+}
+
+pub(crate) fn of_points(rt: &impl Print, name: &str, text: &[u32]) -> io::Result<()> {
+    print!(rt; "{name}")?;
+    first_points(rt, text, text.len())?;
     print!(rt; " ->")
 }
 
@@ -101,7 +113,7 @@ pub(crate) fn first(rt: &impl Print, f: First) -> io::Result<()> {
 
 // A code point and its size.
 pub(crate) fn point(rt: &impl Print, p: Point) -> io::Result<()> {
-    hexadecimal(rt, p.number)?;
+    code(rt, p.number)?;
     number(rt, p.size)
 }
 
@@ -113,9 +125,25 @@ pub(crate) fn checked(rt: &impl Print, c: Checked) -> io::Result<()> {
     println!(rt)
 }
 
-pub(crate) fn wrote<T: Element>(rt: &impl Print, answer: Written, out: &[T]) -> io::Result<()> {
+pub(crate) fn wrote_bytes(rt: &impl Print, answer: Written, out: &[u8]) -> io::Result<()> {
     match answer {
-        Written::Count(n) => first_elements(rt, out, n)?,
+        Written::Count(n) => first_bytes(rt, out, n)?,
+        Written::Refused(r) => refused(rt, r)?,
+    }
+    println!(rt)
+}
+
+pub(crate) fn wrote_units(rt: &impl Print, answer: Written, out: &[u16]) -> io::Result<()> {
+    match answer {
+        Written::Count(n) => first_units(rt, out, n)?,
+        Written::Refused(r) => refused(rt, r)?,
+    }
+    println!(rt)
+}
+
+pub(crate) fn wrote_points(rt: &impl Print, answer: Written, out: &[u32]) -> io::Result<()> {
+    match answer {
+        Written::Count(n) => first_points(rt, out, n)?,
         Written::Refused(r) => refused(rt, r)?,
     }
     println!(rt)

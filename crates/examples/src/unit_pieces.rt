@@ -18,8 +18,8 @@ fn feed(
 ) -> io::Result<UnitDecoder> {
     let mut out = [0u8; 64];
     let fed = moxandril::unit_pieces::feed(state, piece, &mut out, list);
-    crate::show::of_text(rt, "unit_pieces::feed:", piece)?;
-    crate::show::wrote(rt, fed.answer, &out)?;
+    crate::show::of_units(rt, "unit_pieces::feed:", piece)?;
+    crate::show::wrote_bytes(rt, fed.answer, &out)?;
     Ok(fed.state)
 }
 

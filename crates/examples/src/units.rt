@@ -1,9 +1,9 @@
 // Texts of UTF-16 units: the calls of moxandril::units.
-use crate::show::{of_text, wrote};
+use crate::show::{of_units, wrote_bytes, wrote_points, wrote_units};
 use std::io;
 
 fn read(rt: &impl Print, text: &[u16]) -> io::Result<()> {
-    of_text(rt, "units::segment, point, check:", text)?;
+    of_units(rt, "units::segment, point, check:", text)?;
     crate::show::first(rt, moxandril::units::segment(text))?;
     crate::show::point(rt, moxandril::units::point(text))?;
     crate::show::checked(rt, moxandril::units::check(text))
@@ -11,30 +11,30 @@ fn read(rt: &impl Print, text: &[u16]) -> io::Result<()> {
 
 fn to_bytes(rt: &impl Print, text: &[u16]) -> io::Result<()> {
     let mut out = [0u8; 64];
-    of_text(rt, "units::to_bytes:", text)?;
+    of_units(rt, "units::to_bytes:", text)?;
     let answer = moxandril::units::to_bytes(text, &mut out);
-    wrote(rt, answer, &out)
+    wrote_bytes(rt, answer, &out)
 }
 
 fn to_points(rt: &impl Print, text: &[u16]) -> io::Result<()> {
     let mut out = [0u32; 64];
-    of_text(rt, "units::to_points:", text)?;
+    of_units(rt, "units::to_points:", text)?;
     let answer = moxandril::units::to_points(text, &mut out);
-    wrote(rt, answer, &out)
+    wrote_points(rt, answer, &out)
 }
 
 fn repair(rt: &impl Print, text: &[u16]) -> io::Result<()> {
     let mut out = [0u16; 64];
-    of_text(rt, "units::repair:", text)?;
+    of_units(rt, "units::repair:", text)?;
     let answer = moxandril::units::repair(text, &mut out);
-    wrote(rt, answer, &out)
+    wrote_units(rt, answer, &out)
 }
 
 fn repair_to_bytes(rt: &impl Print, text: &[u16]) -> io::Result<()> {
     let mut out = [0u8; 64];
-    of_text(rt, "units::repair_to_bytes:", text)?;
+    of_units(rt, "units::repair_to_bytes:", text)?;
     let answer = moxandril::units::repair_to_bytes(text, &mut out);
-    wrote(rt, answer, &out)
+    wrote_bytes(rt, answer, &out)
 }
 
 fn example(rt: &impl Print, text: &[u16]) -> io::Result<()> {
