@@ -113,11 +113,11 @@ module _ {S : Type 0} (D : Decoding S) (text : List ℕ) (h : Held S) (cut place
   after = closed D h.state ((D.stands h.state).taken + length piece) (fed D h.state piece h.list)
 
   -- the piece and the part that is lent, as the code says them
-  module _ (to k : ℕ) (to_is : to ≡ bring cut h.from (length text)) (Lent-is : take k rest ≡ take places rest)
+  module _ (to k : ℕ) (to_is : to ≡ bring cut h.from (length text)) (lent_is : take k rest ≡ take places rest)
       {out₁ list₁ said : List ℕ} {next : S}
       (f : Feeds D h.state (take (to - h.from) (drop h.from text)) (take k rest) h.list out₁ list₁ said next) where
     feeds : Feeds D h.state piece (take places rest) h.list out₁ list₁ said next
-    feeds = rw (to_is, Lent-is) at f
+    feeds = rw (to_is, lent_is) at f
 
     module _ (m : ℕ) (a : said ≡ 0 ∷ m ∷ []) where
       says : says_of D text h c ≡ 0 ∷ m ∷ []
@@ -127,7 +127,7 @@ module _ {S : Type 0} (D : Decoding S) (text : List ℕ) (h : Held S) (cut place
       grants = feed-grants D h.state piece (take places rest) h.list (ap is_granted says)
 
       fits : length form ≤ length (take k rest)
-      fits = rw (← Lent-is) at grants.fits
+      fits = rw (← lent_is) at grants.fits
 
       pub piece-fits : h.done ≤ length h.out → h.done + m ≤ length h.out
       piece-fits i =
@@ -143,7 +143,7 @@ module _ {S : Type 0} (D : Decoding S) (text : List ℕ) (h : Held S) (cut place
           let wrote : out₁ ≡ form ++ drop (length form) (take k rest)
           = feeds.output
           ∙ ap (λ (l : List ℕ). output_of l form (take places rest)) says
-          ∙ ap (λ (l : List ℕ). form ++ drop (length form) l) (sym Lent-is) in
+          ∙ ap (λ (l : List ℕ). form ++ drop (length form) l) (sym lent_is) in
           let out-is : out₁ ++ drop k rest ≡ form ++ drop (length form) rest
           = ap (λ (l : List ℕ). l ++ drop k rest) wrote ∙ put_back form rest k fits in
           let new : List ℕ → Held S = λ l. record {
@@ -166,7 +166,7 @@ module _ {S : Type 0} (D : Decoding S) (text : List ℕ) (h : Held S) (cut place
         let list-is : list₁ ≡ h.list
         = feeds.entries ∙ ap (λ (b : Bool). cond b (fed D h.state piece h.list).kept.list h.list) no in
         let out-is : out₁ ≡ take k rest
-        = feeds.output ∙ ap (λ (b : Bool). cond b (form ++ drop (length form) (take places rest)) (take places rest)) no ∙ sym Lent-is in
+        = feeds.output ∙ ap (λ (b : Bool). cond b (form ++ drop (length form) (take places rest)) (take places rest)) no ∙ sym lent_is in
         let same : record { state = next; from = h.from; done = h.done; out = take h.done h.out ++ (out₁ ++ drop k rest); list = list₁ } ≡ h
         = rw (state-is, list-is, out-is, take-append-drop k rest, take-append-drop h.done h.out) in
         same ∙ sym (one-refused D text h c no)
