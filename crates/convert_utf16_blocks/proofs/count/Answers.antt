@@ -22,7 +22,7 @@ loop-k-preserved c =
     let n : c.unit_of-places.result ≡ size_of x = c.unit_of-places.ensures ∙ c.size_of.ensures in (
       omega arith,
       omega (arith, c.loop-k.invariant.1, n, size-some x),
-      rw (n, c.loop-k.invariant.2, bytes_next t c.loop-k.k (omega arith), length-append, size_is x (omega (arith, c.shared_slice_known-in-loop-k-1.given c.loop-k.k))),
+      rw (n, c.loop-k.invariant.2, bytes_next t c.loop-k.k (omega arith), length-append, size_is x (omega (arith, c.type_inv.units c.loop-k.k))),
     )
 
 pub returns : goal.returns

@@ -43,7 +43,7 @@ loop-k-preserved c =
       omega arith,
       rw (taken c, c.firsts-first.ensures.each k (omega arith), c.seconds-second.ensures.each k (omega arith), c.thirds-third.ensures.each k (omega arith))
           (squeezed-next a.units.now a.out.now c.loop-k.out k 2 c.loop-k.at i (omega (arith, i.few, i.long)) (omega arith)
-          (get_or a.units.now k 0) refl (omega (arith, c.shared_slice_known-1.given k)) refl),
+          (get_or a.units.now k 0) refl (omega (arith, c.type_inv.units k)) refl),
     )
 
 pub shape_of-out : goal.shape_of-out

@@ -43,7 +43,7 @@ returns-in-Count c =
     let a = c.args in
     let table = table_of a.page in
     let p = is_page_lem a.page in
-    let small : (i : ℕ) → get_or a.text.now i 0 < 256 = λ i. omega (arith, c.shared_slice_known-1.given i) in
+    let small : (i : ℕ) → get_or a.text.now i 0 < 256 = λ i. omega (arith, c.type_inv.text i) in
     round-granted (as_bytes_says table (length a.between.now)) (as_bytes table) (to_page_says table (length a.back.now)) a.text.now a.between.now c.to_bytes.ensures
     (in_page table) c.in-Count.n c.in-Count.is (wrote (goal.at.returns-in-Count c).In-Count).0 a.back.now _ c.bytes_in_page.result c.bytes_in_page.ensures
     (page-bytes-page table p a.text.now small) (in-page-told table p a.text.now (length a.back.now) small)

@@ -5,7 +5,7 @@ use native.Mathlib.Omega.{arith}
 use Rattle.index_checkpoint.proofs.number_at.Goals as goal
 
 pub overflow_cast-result : goal.overflow_cast-result
-overflow_cast-result c = omega (arith, c.shared_slice_known-1.given c.args.at)
+overflow_cast-result c = omega (arith, c.type_inv.row c.args.at)
 
 pub returns : goal.returns
 returns c = sym (get_or-eq_default c.args.row.now 0 c.if-at-row.false)

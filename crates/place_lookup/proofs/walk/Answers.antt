@@ -1,6 +1,5 @@
 -- `walk` meets its contract: at the place that the walk has come to, lookup still gives the same.
 use Prim.Native.Nat.{◌<◌}
-use lib.ListN.{length}
 use native.Mathlib.Omega.{arith}
 use Rattle.place.specs.Walk.{number, measure}
 use Rattle.place.proofs.OneStep.{Taken, taken}
@@ -33,19 +32,12 @@ returns-then-at-text c =
     let to = c.args.to in
     seeks-past (measure to) (number to) c.loop-from.invariant (short (goal.at.returns-then-at-text c).Else-offset-count) c.if-at-text.true
 
--- there is text left
-more : (c : Else-at-text)
-    → c.loop-from.at < length c.args.text.now
-more c =
-    omega (arith, c.loop-from.invariant.inside, c.if-at-text.false)
-
 -- one segment more
 turned : (c : After-step_by-p)
     → Taken c.args.text.now c.loop-from.at c.loop-from.p c.step_by-p.result
 turned c =
-    let more : c.loop-from.at < length c.args.text.now = omega (arith, c.loop-from.invariant.inside, c.if-at-text.false) in
     taken _ c.requires.classes_value c.args.text.now c.loop-from.at c.loop-from.p c.step_by-p.result c.end_first.result
-    (more) c.loop-from.invariant.roomy c.end_first.ensures c.step_by-p.ensures
+    (omega (arith, c.loop-from.invariant.inside, c.if-at-text.false)) c.loop-from.invariant.roomy c.end_first.ensures c.step_by-p.ensures
 
 pub overflow_sub-at : goal.overflow_sub-at
 overflow_sub-at c =

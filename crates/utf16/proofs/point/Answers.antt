@@ -24,27 +24,24 @@ pub bounds-text-1 : goal.bounds-text-1
 bounds-text-1 c = let p = pointed (goal.at.bounds-text-1 c).In-Whole in omega (arith, p.some, p.inside)
 
 -- a pair
-halves : (c : After-wide-y)
+halves : (c : After-wide-y) → Pointed utf16 c.args.text.now c.in-Whole.n
     → (c.in-Whole.n ≡ 2) × FirstHalf c.wide-x.result × SecondHalf c.wide-y.result
-halves c =
-    let pointed : Pointed utf16 c.args.text.now c.in-Whole.n = point-whole utf16 units_division c.args.text.now _ c.segment.ensures _ c.in-Whole.is in
-    let p = pointed in
-    rw (c.wide-x.ensures, c.wide-y.ensures) (whole_pair _ _ p (omega (arith, p.some)))
+halves c p = rw (c.wide-x.ensures, c.wide-y.ensures) (whole_pair _ _ p (omega (arith, p.some)))
 
 pub overflow_sub-result : goal.overflow_sub-result
-overflow_sub-result c = omega (arith, halves c)
+overflow_sub-result c = omega (arith, halves c (pointed (goal.at.overflow_sub-result c).In-Whole))
 
 pub overflow_mul-result : goal.overflow_mul-result
-overflow_mul-result c = omega (arith, halves c)
+overflow_mul-result c = omega (arith, halves c (pointed (goal.at.overflow_mul-result c).In-Whole))
 
 pub overflow_add-result : goal.overflow_add-result
-overflow_add-result c = omega (arith, halves c)
+overflow_add-result c = omega (arith, halves c (pointed (goal.at.overflow_add-result c).In-Whole))
 
 pub overflow_sub-result-in-Whole : goal.overflow_sub-result-in-Whole
-overflow_sub-result-in-Whole c = omega (arith, halves c)
+overflow_sub-result-in-Whole c = omega (arith, halves c (pointed (goal.at.overflow_sub-result-in-Whole c).In-Whole))
 
 pub overflow_add-result-in-Whole : goal.overflow_add-result-in-Whole
-overflow_add-result-in-Whole c = omega (arith, halves c)
+overflow_add-result-in-Whole c = omega (arith, halves c (pointed (goal.at.overflow_add-result-in-Whole c).In-Whole))
 
 pub returns-in-Nothing : goal.returns-in-Nothing
 returns-in-Nothing c =
@@ -52,7 +49,8 @@ returns-in-Nothing c =
 
 pub returns-else-n-eq1 : goal.returns-else-n-eq1
 returns-else-n-eq1 c =
-    rw (c.wide-x.ensures, c.wide-y.ensures) (says_of (pointed (goal.at.returns-else-n-eq1 c).In-Whole) 2 (halves c).0)
+    let p = pointed (goal.at.returns-else-n-eq1 c).In-Whole in
+    rw (c.wide-x.ensures, c.wide-y.ensures) (says_of p 2 (halves c p).0)
 
 pub returns-in-Damage : goal.returns-in-Damage
 returns-in-Damage c =

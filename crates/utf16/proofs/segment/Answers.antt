@@ -14,7 +14,7 @@ returns-then-x-lt55296 c = reads_whole c.args.text.now (omega arith) (inl (omega
 
 -- a unit is below 0x10000
 pub returns-then-x-gt57343 : goal.returns-then-x-gt57343
-returns-then-x-gt57343 c = reads_whole c.args.text.now (omega arith) (inr (omega arith, omega (arith, c.shared_slice_known-1.given 0)))
+returns-then-x-gt57343 c = reads_whole c.args.text.now (omega arith) (inr (omega arith, omega (arith, c.type_inv.text 0)))
 
 pub returns-then-x-gt56319 : goal.returns-then-x-gt56319
 returns-then-x-gt56319 c = reads_second c.args.text.now (omega arith) (omega arith)

@@ -69,7 +69,7 @@ whole c =
     let m : Paired d 128 = rw q at (c.is_paired.ensures c.if-not-is_paired.false) in
     let h : 128 < length d = omega (arith, length-drop at t, c.loop-at-test.true) in
     rw r (whole_on t at (128 + bit (is_second (get_or d 128 0))) c.loop-at.invariant
-    (paired_whole 128 d h m (rw q at n) (λ k. omega (arith, get_or-drop at t k 0, c.shared_slice_known-1.given (at + k)))))
+    (paired_whole 128 d h m (rw q at n) (λ k. omega (arith, get_or-drop at t k 0, c.type_inv.text (at + k)))))
 
 pub overflow_add-at : goal.overflow_add-at
 overflow_add-at c = let w = whole c in omega (arith, w.inside)

@@ -1,5 +1,5 @@
 -- So many of the numbers are put at the start.
-use Prim.Native.Nat.{ℕ, ◌≤◌}
+use Prim.Native.Nat.{ℕ}
 use mathlib.Core.Path.{◌≡◌, sym, ap, ◌∙◌}
 use mathlib.Core.List.{List}
 use lib.ListN.{length, take}
@@ -14,13 +14,9 @@ use Rattle.bridge_numbers.proofs.telling.tell.Goals as goal
 long : (c : Start) → length c.args.said.numbers ≡ places
 long c = c.well_formed.0.1.1.0.1.0.1
 
-fewer : (c : After-least-n) → c.least-n.result ≤ length c.args.said.numbers
-fewer c =
-    let long : length c.args.said.numbers ≡ places = c.well_formed.0.1.1.0.1.0.1 in
-    omega (arith, long, c.least-n.ensures)
-
-part : (c : After-least-n) → length (take c.least-n.result c.args.said.numbers) ≡ c.least-n.result
-part c = length-take-le c.least-n.result c.args.said.numbers (fewer c)
+-- so the part told lies in it
+part : (c : After-least-n) → length c.args.said.numbers ≡ places → length (take c.least-n.result c.args.said.numbers) ≡ c.least-n.result
+part c all = length-take-le c.least-n.result c.args.said.numbers (omega (arith, all, c.least-n.ensures))
 
 pub returns-then-says-lt-ROOM : goal.returns-then-says-lt-ROOM
 returns-then-says-lt-ROOM c = told-short c.args.says.now c.if-says-lt-ROOM.true
@@ -28,6 +24,7 @@ returns-then-says-lt-ROOM c = told-short c.args.says.now c.if-says-lt-ROOM.true
 pub returns : goal.returns
 returns c =
     let said = c.args.said in
-    let e = told_part c.least-n.result said.count said.numbers (long (goal.at.returns c).Start) c.least-n.ensures in
-    told-copied c.args.says.now c.if-says-lt-ROOM.false (sym (part (goal.at.returns c).After-least-n) ∙ ap length e)
+    let all = long (goal.at.returns c).Start in
+    let e = told_part c.least-n.result said.count said.numbers all c.least-n.ensures in
+    told-copied c.args.says.now c.if-says-lt-ROOM.false (sym (part (goal.at.returns c).After-least-n all) ∙ ap length e)
     (c.put_each.ensures ∙ ap (λ (run : List ℕ). put run c.args.says.now) e)

@@ -26,7 +26,7 @@ pub loop-at-preserved : goal.loop-at-preserved
 loop-at-preserved c =
     let a = c.args in
     let text = a.text.now in
-    let p = passed-byte a.numbers.now text c.loop-at.at c.loop-at-test.true (omega (arith, c.shared_slice_known-in-loop-at-1.given c.loop-at.at)) in (
+    let p = passed-byte a.numbers.now text c.loop-at.at c.loop-at-test.true (omega (arith, c.type_inv.text c.loop-at.at)) in (
       rw (c.bytes_of-total.ensures, c.number.ensures)
           (summed-on (left (paged a.numbers.now) utf8 text) (length text) c.loop-at.at c.loop-at.total 1 _ c.loop-at.invariant.0 p),
       omega (arith, few c, c.loop-at.invariant.1),

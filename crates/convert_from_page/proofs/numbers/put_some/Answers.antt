@@ -17,7 +17,7 @@ loop-at-init c = (walked_start c.args.numbers.now c.args.text.now c.args.out.now
 pub put_two-done-requires : goal.put_two-done-requires
 put_two-done-requires c =
     turn-room c.args.numbers.now c.args.text.now c.args.out.now c.requires.text_in_bounds c.loop-at.out c.loop-at.at c.loop-at.done c.loop-at.invariant.0
-    (omega (arith, c.shared_slice_known-in-loop-at-1.given c.loop-at.at)) c.number.result c.number.ensures (omega (arith, c.loop-at-test.true))
+    (omega (arith, c.type_inv.text c.loop-at.at)) c.number.result c.number.ensures (omega (arith, c.loop-at-test.true))
 
 -- what is written then
 after : (c : After-put_two-done)
@@ -25,7 +25,7 @@ after : (c : After-put_two-done)
     Walked a.numbers.now a.text.now a.out.now (back c.loop-at.out c.loop-at.done c.put_two-done.new.out) (c.loop-at.at + 1) (c.loop-at.done + c.put_two-done.result)
 after c =
     turn_on c.args.numbers.now c.args.text.now c.args.out.now c.requires.text_in_bounds c.loop-at.out c.loop-at.at c.loop-at.done c.loop-at.invariant.0
-    (omega (arith, c.shared_slice_known-in-loop-at-1.given c.loop-at.at)) c.number.result c.number.ensures (omega (arith, c.loop-at-test.true))
+    (omega (arith, c.type_inv.text c.loop-at.at)) c.number.result c.number.ensures (omega (arith, c.loop-at-test.true))
     c.put_two-done.new.out c.put_two-done.result c.put_two-done.ensures
 
 pub overflow_add-done : goal.overflow_add-done
@@ -43,7 +43,7 @@ whole : (c : After-put_bytes)
     × Puts (converted (paged a.numbers.now) utf8 a.text.now) a.out.now (back c.loop-at.out c.loop-at.done ys) (c.loop-at.done + c.put_bytes.result)
 whole c =
     last_on c.args.numbers.now c.args.text.now c.args.out.now c.requires.text_in_bounds c.loop-at.out c.loop-at.at c.loop-at.done c.loop-at.invariant.0
-    (omega (arith, c.shared_slice_known-2-1.given c.loop-at.at)) c.number-2.result c.number-2.ensures (omega (arith, c.loop-at-test.false, c.loop-at.invariant.1)) (search rules)
+    (omega (arith, c.type_inv.text c.loop-at.at)) c.number-2.result c.number-2.ensures (omega (arith, c.loop-at-test.false, c.loop-at.invariant.1)) (search rules)
     c.put_bytes.new.out c.put_bytes.result c.put_bytes.ensures
 
 pub overflow_add-result : goal.overflow_add-result

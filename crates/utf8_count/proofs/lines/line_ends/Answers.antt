@@ -1,28 +1,21 @@
 -- `line_ends` meets its contract: the line ends of the blocks passed, and what is behind them.
 use mathlib.Core.Path.{◌≡◌, refl, ap, ◌∙◌}
-use Prim.Native.Nat.{ℕ, ◌+◌, ◌-◌, ◌≤◌}
+use Prim.Native.Nat.{ℕ, ◌+◌, ◌≤◌}
 use lib.ListN.{length, length-drop}
-use borrow.Author.Tests.{leb-true}
 use native.Mathlib.Omega.{arith}
 use Rattle.terms.proofs.WalkBySegments.{part_is}
 use Rattle.utf8_count.specs.Counts.{ends_in}
 use Rattle.utf8_count.proofs.LineEndsAdd.{ends-few, ends_add, ends-split}
-use Rattle.utf8_count.proofs.lines.line_ends.Goals.{After-block_ends-ends, After-few, Then-text-at-ge130}
+use Rattle.utf8_count.proofs.lines.line_ends.Goals.{After-block_ends-ends, After-few}
 use Rattle.utf8_count.proofs.lines.line_ends.Goals as goal
 
 pub loop-at-init : goal.loop-at-init
 loop-at-init c = (omega arith, omega arith, refl)
 
--- there are two bytes behind a block
-long : (c : Then-text-at-ge130)
-    → 130 ≤ length c.args.text.now - c.loop-at.at
-long c =
-    leb-true 130 (length c.args.text.now - c.loop-at.at) c.if-text-at-ge130.true-raw
-
 pub block_ends-ends-requires : goal.block_ends-ends-requires
 block_ends-ends-requires c =
     let text = c.args.text.now in
-    rw (part_is text c.loop-at.at) (omega (arith, length-drop c.loop-at.at text, long (goal.at.block_ends-ends-requires c).Then-text-at-ge130))
+    rw (part_is text c.loop-at.at) (omega (arith, length-drop c.loop-at.at text, c.if-text-at-ge130.true))
 
 -- a block more
 passed : (c : After-block_ends-ends)
@@ -30,10 +23,9 @@ passed : (c : After-block_ends-ends)
     let at = c.loop-at.at + 128 in
     (at ≤ c.args.n) × (at ≤ length text) × (c.loop-at.ends + c.block_ends-ends.result ≡ ends_in at text)
 passed c =
-    let long : 130 ≤ length c.args.text.now - c.loop-at.at = leb-true 130 (length c.args.text.now - c.loop-at.at) c.if-text-at-ge130.true-raw in
     let text = c.args.text.now in (
       omega (arith, c.loop-at-test.true),
-      omega (arith, long),
+      omega (arith, c.if-text-at-ge130.true),
       rw (ends_add c.loop-at.at 128 text, c.loop-at.invariant.2, c.block_ends-ends.ensures, part_is text c.loop-at.at),
     )
 

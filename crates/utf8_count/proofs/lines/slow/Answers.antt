@@ -1,7 +1,6 @@
 -- `slow` meets its contract: the line ends of the bytes passed, and there are none behind the end.
 use mathlib.Core.Path.{◌≡◌, refl, sym, ap, ◌∙◌}
-use Prim.Native.Nat.{ℕ, ◌+◌, ◌≤◌, ◌<◌}
-use borrow.Author.Tests.{ltb-true, ltb-false}
+use Prim.Native.Nat.{ℕ, ◌+◌, ◌<◌}
 use native.Mathlib.Omega.{arith}
 use lib.ListN.{length}
 use Rattle.terms.proofs.WalkBySegments.{part_is}
@@ -20,7 +19,7 @@ counted : (c : After-end_first-ends)
 counted c =
     let text = c.args.text.now in
     let at = c.loop-at.at in
-    (ltb-true at (length text) c.if-at-text.true-raw, rw (ends-one at text, c.loop-at.invariant.2, c.end_first-ends.ensures, part_is text at))
+    (c.if-at-text.true, rw (ends-one at text, c.loop-at.invariant.2, c.end_first-ends.ensures, part_is text at))
 
 pub overflow_add-ends : goal.overflow_add-ends
 overflow_add-ends c =
@@ -36,8 +35,7 @@ loop-at-preserved c = (omega arith, omega (arith, counted c), (counted c).1)
 pub returns-else-at-text : goal.returns-else-at-text
 returns-else-at-text c =
     let text = c.args.text.now in
-    let h : length text ≤ c.loop-at.at = ltb-false c.loop-at.at (length text) c.if-at-text.false-raw in
-    let e : c.loop-at.at ≡ length text = omega (arith, c.loop-at.invariant) in
+    let e : c.loop-at.at ≡ length text = omega (arith, c.if-at-text.false, c.loop-at.invariant) in
     c.loop-at.invariant.2 ∙ ap (λ (k : ℕ). ends_in k text) e ∙ sym (ends-over c.args.n text (omega (arith, c.loop-at.invariant)))
 
 pub returns-after-loop-at : goal.returns-after-loop-at
