@@ -25,10 +25,6 @@ loop-pace-init c =
     let a = c.args in
     (refl, refl, walked_start a.room a.text.now (work a.tally a.out.now a.list.now) c.requires)
 
-abbrev entry : (c : At-loop-pace)
-    → Work
-entry c = let a = c.args in work a.tally a.out.now a.list.now
-
 -- what was told of the rest of the text
 says : (c : After-segment_by-seg) → told_first c.segment_by-seg.result ≡ first_says bytes c.loop-pace.rest.now
 unfolding classes table
@@ -45,99 +41,77 @@ shape_of-list-then-size-eq0 c = c.loop-pace.invariant.1
 
 pub returns-then-size-eq0 : goal.returns-then-size-eq0
 returns-then-size-eq0 c =
-    walked_end c.args.room c.args.text.now (entry (goal.at.returns-then-size-eq0 c).At-loop-pace) c.loop-pace.invariant.2 (seen (goal.at.returns-then-size-eq0 c).After-segment_by-seg) (sym c.settled_size-size.ensures ∙ c.if-size-eq0.true)
+    walked_end c.args.room c.args.text.now (work c.args.tally c.args.out.now c.args.list.now) c.loop-pace.invariant.2
+    (seen (goal.at.returns-then-size-eq0 c).After-segment_by-seg) (sym c.settled_size-size.ensures ∙ c.if-size-eq0.true)
 
 pub act-tally-requires : goal.act-tally-requires
 act-tally-requires c =
+    let way = goal.at.act-tally-requires c in
     let rest = c.loop-pace.rest.now in (
-      stands c.segment_by-seg.result rest (says (goal.at.act-tally-requires c).After-segment_by-seg),
-      turn-ready c.args.room rest (work c.loop-pace.tally c.loop-pace.out c.loop-pace.list) c.loop-pace.invariant.2.ready (told-turn rest (seen (goal.at.act-tally-requires c).After-segment_by-seg)),
+      stands c.segment_by-seg.result rest (says way.After-segment_by-seg),
+      turn-ready c.args.room rest (work c.loop-pace.tally c.loop-pace.out c.loop-pace.list) c.loop-pace.invariant.2.ready
+          (told-turn rest (seen way.After-segment_by-seg)),
     )
 
--- what lies behind the segment
-abbrev left : (c : After-settled_size-size)
-    → List ℕ
-left c = drop c.settled_size-size.result c.loop-pace.rest.now
-
--- it has acted
-abbrev mid : (c : After-act-tally)
-    → Work
-mid c = work c.act-tally.result c.act-tally.new.out c.act-tally.new.list
-
-acted-on : (c : After-act-tally)
-    → let entry : Work = let a = c.args in work a.tally a.out.now a.list.now in let left : List ℕ = drop c.settled_size-size.result c.loop-pace.rest.now in
-    Walked c.args.room c.args.text.now entry left (mid c)
-unfolding classes table
-acted-on c =
-    let entry : Work = let a = c.args in work a.tally a.out.now a.list.now in
-    let says : told_first c.segment_by-seg.result ≡ first_says bytes c.loop-pace.rest.now = c.segment_by-seg.ensures ∙ ap (λ look. first_says look c.loop-pace.rest.now) by-table in
-    let seen : Told c.segment_by-seg.result c.loop-pace.rest.now = told c.segment_by-seg.result c.loop-pace.rest.now says in
+-- it has acted, and what lies behind the segment is left
+acted-on : (c : After-act-tally) → Told c.segment_by-seg.result c.loop-pace.rest.now
+    → Walked c.args.room c.args.text.now (work c.args.tally c.args.out.now c.args.list.now)
+    (drop c.settled_size-size.result c.loop-pace.rest.now) (work c.act-tally.result c.act-tally.new.out c.act-tally.new.list)
+acted-on c seen =
+    let a = c.args in
+    let then = work c.act-tally.result c.act-tally.new.out c.act-tally.new.list in
     rw c.settled_size-size.ensures
-    (walked_next c.args.room c.args.text.now entry c.loop-pace.invariant.2 (told-turn c.loop-pace.rest.now seen) (mid c)
+    (walked_next a.room a.text.now (work a.tally a.out.now a.list.now) c.loop-pace.invariant.2 (told-turn c.loop-pace.rest.now seen) then
     (rw seen.settled_is at c.act-tally.ensures))
 
-inside : (c : After-settled_size-size) → c.settled_size-size.result ≤ length c.loop-pace.rest.now
-unfolding classes table
-inside c =
-    let says : told_first c.segment_by-seg.result ≡ first_says bytes c.loop-pace.rest.now = c.segment_by-seg.ensures ∙ ap (λ look. first_says look c.loop-pace.rest.now) by-table in
-    let seen : Told c.segment_by-seg.result c.loop-pace.rest.now = told c.segment_by-seg.result c.loop-pace.rest.now says in
-    rw c.settled_size-size.ensures (told-turn c.loop-pace.rest.now seen).inside
+inside : (c : After-settled_size-size) → Told c.segment_by-seg.result c.loop-pace.rest.now
+    → c.settled_size-size.result ≤ length c.loop-pace.rest.now
+inside c seen = rw c.settled_size-size.ensures (told-turn c.loop-pace.rest.now seen).inside
 
 pub slice_bounds-behind-count : goal.slice_bounds-behind-count
-slice_bounds-behind-count c = inside (goal.at.slice_bounds-behind-count c).After-settled_size-size
+slice_bounds-behind-count c =
+    let way = goal.at.slice_bounds-behind-count c in
+    inside way.After-settled_size-size (seen way.After-segment_by-seg)
 
 pub slice_bounds-behind-start : goal.slice_bounds-behind-start
-slice_bounds-behind-start c = inside (goal.at.slice_bounds-behind-start c).After-settled_size-size
+slice_bounds-behind-start c =
+    let way = goal.at.slice_bounds-behind-start c in
+    inside way.After-settled_size-size (seen way.After-segment_by-seg)
 
 -- the run stands there
-next : (c : After-paced_run-run)
-    → let left : List ℕ = drop c.settled_size-size.result c.loop-pace.rest.now in
-    Run left c.paced_run-run.result
+next : (c : After-paced_run-run) → Run (drop c.settled_size-size.result c.loop-pace.rest.now) c.paced_run-run.result
 next c =
-    let left : List ℕ = drop c.settled_size-size.result c.loop-pace.rest.now in
-    run_paced left _ c.paced_run-run.result (rw (part_is c.loop-pace.rest.now c.settled_size-size.result) at c.paced_run-run.ensures)
+    run_paced (drop c.settled_size-size.result c.loop-pace.rest.now) _ c.paced_run-run.result
+    (rw (part_is c.loop-pace.rest.now c.settled_size-size.result) at c.paced_run-run.ensures)
 
 -- as the code cuts it off
 cut_off : (c : After-paced_run-run)
-    → let left : List ℕ = drop c.settled_size-size.result c.loop-pace.rest.now in
-    left ≡ lent c.loop-pace.rest.now c.settled_size-size.result
+    → drop c.settled_size-size.result c.loop-pace.rest.now ≡ lent c.loop-pace.rest.now c.settled_size-size.result
 cut_off c = sym (part_is c.loop-pace.rest.now c.settled_size-size.result)
 
 pub slice_bounds-pass-end : goal.slice_bounds-pass-end
 slice_bounds-pass-end c =
     let n = c.paced_run-run.result in
-    subst (λ (xs : List ℕ). n ≡ length (take n xs)) (cut_off c) (sym (run_long (left (goal.at.slice_bounds-pass-end c).After-settled_size-size) n (next c)))
+    subst (λ (xs : List ℕ). n ≡ length (take n xs)) (cut_off c)
+    (sym (run_long (drop c.settled_size-size.result c.loop-pace.rest.now) n (next c)))
 
 pub pass-tally-requires : goal.pass-tally-requires
 pass-tally-requires c =
+    let way = goal.at.pass-tally-requires c in
     let n = c.paced_run-run.result in
     let room = c.args.room in
-    subst (λ (xs : List ℕ). (c.act-tally.result.written + length (take n xs) ≤ length c.act-tally.new.out) × (c.act-tally.result.whole + length (take n xs) ≤ limit)) (cut_off (goal.at.pass-tally-requires c).After-paced_run-run)
-    (run_fits (left (goal.at.pass-tally-requires c).After-settled_size-size) n (next (goal.at.pass-tally-requires c).After-paced_run-run) room (mid (goal.at.pass-tally-requires c).After-act-tally) (turn-ready room (left (goal.at.pass-tally-requires c).After-settled_size-size) (mid (goal.at.pass-tally-requires c).After-act-tally) (acted-on (goal.at.pass-tally-requires c).After-act-tally).ready (run-turn (left (goal.at.pass-tally-requires c).After-settled_size-size) n (next (goal.at.pass-tally-requires c).After-paced_run-run))))
+    let left = drop c.settled_size-size.result c.loop-pace.rest.now in
+    let acted = acted-on way.After-act-tally (seen way.After-segment_by-seg) in
+    let there = next way.After-paced_run-run in
+    subst (λ (xs : List ℕ). (c.act-tally.result.written + length (take n xs) ≤ length c.act-tally.new.out)
+    × (c.act-tally.result.whole + length (take n xs) ≤ limit)) (cut_off way.After-paced_run-run)
+    (run_fits left n there room _ (turn-ready room left _ acted.ready (run-turn left n there)))
 
-ran : (c : After-pass-tally)
-    → let entry : Work = let a = c.args in work a.tally a.out.now a.list.now in let left : List ℕ = drop c.settled_size-size.result c.loop-pace.rest.now in
-    Walked c.args.room c.args.text.now entry (drop c.paced_run-run.result left)
-    (work c.pass-tally.result c.pass-tally.new.out c.act-tally.new.list)
-unfolding classes table
-ran c =
-    let left : List ℕ = drop c.settled_size-size.result c.loop-pace.rest.now in
-    let mid : Work = work c.act-tally.result c.act-tally.new.out c.act-tally.new.list in
-    let cut_off : left ≡ lent c.loop-pace.rest.now c.settled_size-size.result = sym (part_is c.loop-pace.rest.now c.settled_size-size.result) in
-    let entry : Work = let a = c.args in work a.tally a.out.now a.list.now in
-    let says : told_first c.segment_by-seg.result ≡ first_says bytes c.loop-pace.rest.now = c.segment_by-seg.ensures ∙ ap (λ look. first_says look c.loop-pace.rest.now) by-table in
-    let seen : Told c.segment_by-seg.result c.loop-pace.rest.now = told c.segment_by-seg.result c.loop-pace.rest.now says in
-    let acted-on : Walked c.args.room c.args.text.now entry left mid = rw c.settled_size-size.ensures
-    (walked_next c.args.room c.args.text.now entry c.loop-pace.invariant.2 (told-turn c.loop-pace.rest.now seen) mid
-    (rw seen.settled_is at c.act-tally.ensures)) in
-    let next : Run left c.paced_run-run.result = run_paced left _ c.paced_run-run.result (rw (part_is c.loop-pace.rest.now c.settled_size-size.result) at c.paced_run-run.ensures) in
-    let n = c.paced_run-run.result in
-    let list = c.act-tally.new.list in
-    let v = work c.pass-tally.result c.pass-tally.new.out list in
-    let e : v ≡ reached c.act-tally.new.out (passed (take n left) (log_of mid))
-    = subst (λ (xs : List ℕ). v ≡ reached c.act-tally.new.out (passed (take n xs) (log_of mid))) (sym cut_off) (c.pass-tally.ensures list) in
-    walked_next c.args.room c.args.text.now entry acted-on (run-turn left n next) v
-    (run-acted left n next c.args.room mid v e)
+-- a run that is passed behind what has acted
+ran : {room n : ℕ} {text left : List ℕ} {entry mid : Work} → Walked room text entry left mid → Run left n
+    → (v : Work) → v ≡ reached mid.out (passed (take n left) (log_of mid)) → Walked room text entry (drop n left) v
+ran {room} {n} {text} {left} {entry} {mid} acted next v e =
+    walked_next room text entry acted (run-turn left n next) v (run-acted left n next room mid v e)
 
 ends : (c : After-paced_run-run)
     → c.paced_run-run.result ≤ length (lent c.loop-pace.rest.now c.settled_size-size.result)
@@ -151,14 +125,23 @@ slice_bounds-rest-start c = ends (goal.at.slice_bounds-rest-start c).After-paced
 
 pub loop-pace-smaller : goal.loop-pace-smaller
 loop-pace-smaller c =
-    lent-less c.loop-pace.rest.now c.settled_size-size.result c.paced_run-run.result (inside (goal.at.loop-pace-smaller c).After-settled_size-size)
-    (omega (arith, c.if-size-eq0.false))
+    let way = goal.at.loop-pace-smaller c in
+    lent-less c.loop-pace.rest.now c.settled_size-size.result c.paced_run-run.result
+    (inside way.After-settled_size-size (seen way.After-segment_by-seg)) (omega (arith, c.if-size-eq0.false))
 
 pub loop-pace-preserved : goal.loop-pace-preserved
 loop-pace-preserved c =
-    let v = work c.pass-tally.result c.pass-tally.new.out c.act-tally.new.list in (
+    let way = goal.at.loop-pace-preserved c in
+    let n = c.paced_run-run.result in
+    let list = c.act-tally.new.list in
+    let mid = work c.act-tally.result c.act-tally.new.out list in
+    let v = work c.pass-tally.result c.pass-tally.new.out list in
+    let e : v ≡ reached c.act-tally.new.out (passed (take n (drop c.settled_size-size.result c.loop-pace.rest.now)) (log_of mid))
+    = subst (λ (xs : List ℕ). v ≡ reached c.act-tally.new.out (passed (take n xs) (log_of mid))) (sym (cut_off way.After-paced_run-run))
+    (c.pass-tally.ensures list) in (
       c.pass-tally.auto.out ∙ c.act-tally.auto.out ∙ c.loop-pace.invariant.0,
       c.act-tally.auto.list ∙ c.loop-pace.invariant.1,
-      subst (λ (rest : List ℕ). Walked c.args.room c.args.text.now (entry (goal.at.loop-pace-preserved c).At-loop-pace) rest v)
-          (sym (lent_both c.loop-pace.rest.now c.settled_size-size.result c.paced_run-run.result)) (ran (goal.at.loop-pace-preserved c).After-pass-tally),
+      subst (λ (rest : List ℕ). Walked c.args.room c.args.text.now (work c.args.tally c.args.out.now c.args.list.now) rest v)
+          (sym (lent_both c.loop-pace.rest.now c.settled_size-size.result n))
+          (ran (acted-on way.After-act-tally (seen way.After-segment_by-seg)) (next way.After-paced_run-run) v e),
     )
