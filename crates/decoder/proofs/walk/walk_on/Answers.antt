@@ -17,7 +17,7 @@ use Rattle.decoder.specs.Inside.Acting.{Work, work, log_of, reached, passed}
 use Rattle.decoder.proofs.SettledByReader.{Told, told, stands}
 use Rattle.decoder.proofs.SettledWalk.{told-turn, run-turn, run_fits, run-acted, turn-ready}
 use Rattle.decoder.proofs.SettledWalk.{Walked, walked_start, walked_next, walked_end}
-use Rattle.decoder.proofs.walk.walk_on.Goals.{After-act-tally, After-paced_run-run, After-pass-tally, After-segment_by-seg, After-settled_size-size, At-loop-pace}
+use Rattle.decoder.proofs.walk.walk_on.Goals.{After-act-tally, After-paced_run-run, After-segment_by-seg, After-settled_size-size}
 use Rattle.decoder.proofs.walk.walk_on.Goals as goal
 
 pub loop-pace-init : goal.loop-pace-init
