@@ -9,85 +9,66 @@ use Rattle.terms.proofs.WalkBySegments.{part_is}
 use Rattle.utf8.specs.Bytes.{bytes}
 use Rattle.utf8_check.proofs.RunDivides.{Run, run_long}
 use Rattle.utf8_check.proofs.StandingIsWhole.{run_at}
-use Rattle.decoder.specs.Inside.Acting.{Work, work, Ready, Settles, acted}
-use Rattle.decoder.proofs.SettledWalk.{Turn, run, run-turn, run_fits, run-acted, turn-ready, rest-ready, rest-settles, empty_settled}
-use Rattle.decoder.proofs.walk.walk.Goals.{After-pass-first, After-walk_on-all, After-whole_run-run, Start}
+use Rattle.decoder.specs.Inside.Acting.{Work, work, Ready, Settles}
+use Rattle.decoder.proofs.SettledWalk.{run-turn, run_fits, run-acted, turn-ready, rest-ready, rest-settles, empty_settled}
+use Rattle.decoder.proofs.walk.walk.Goals.{After-pass-first, After-walk_on-all, After-whole_run-run}
 use Rattle.decoder.proofs.walk.walk.Goals as goal
-
-abbrev entry : (c : Start)
-    → Work
-entry c = let a = c.args in work a.tally a.out.now a.list.now
 
 pub returns-then-text-eq0 : goal.returns-then-text-eq0
 returns-then-text-eq0 c =
-    empty_settled c.args.room c.args.text.now (entry (goal.at.returns-then-text-eq0 c).Start) c.requires c.if-text-eq0.true
+    let a = c.args in
+    empty_settled a.room a.text.now (work a.tally a.out.now a.list.now) c.requires c.if-text-eq0.true
 
 -- the first run stands there
 whole : (c : After-whole_run-run) → Run c.args.text.now c.whole_run-run.result
 whole c = run_at c.args.text.now c.whole_run-run.result c.whole_run-run.ensures
-
-turn : (c : After-whole_run-run)
-    → let text = c.args.text.now in
-    let n = c.whole_run-run.result in
-    Turn text n n (run text n)
-turn c = run-turn c.args.text.now c.whole_run-run.result (whole c)
 
 pub slice_bounds-pass-end : goal.slice_bounds-pass-end
 slice_bounds-pass-end c = sym (run_long c.args.text.now c.whole_run-run.result (whole c))
 
 pub pass-first-requires : goal.pass-first-requires
 pass-first-requires c =
+    let way = goal.at.pass-first-requires c in
     let a = c.args in
-    run_fits a.text.now c.whole_run-run.result (whole (goal.at.pass-first-requires c).After-whole_run-run) a.room (entry (goal.at.pass-first-requires c).Start) (turn-ready a.room a.text.now (entry (goal.at.pass-first-requires c).Start) c.requires (turn (goal.at.pass-first-requires c).After-whole_run-run))
+    let n = c.whole_run-run.result in
+    let entry = work a.tally a.out.now a.list.now in
+    let there = whole way.After-whole_run-run in
+    run_fits a.text.now n there a.room entry (turn-ready a.room a.text.now entry c.requires (run-turn a.text.now n there))
 
--- it is passed
-abbrev then : (c : After-pass-first)
-    → Work
-then c = work c.pass-first.result c.pass-first.new.out c.args.list.now
+-- where n bytes of a text have acted
+record Begun (room n : ℕ) (text : List ℕ) (entry then : Work) : Type 0 where
+  -- what is enough for all is enough for the rest
+  ready : Ready room (parts bytes (drop n text)).done then
+  -- and what the rest does is what is left to do
+  settles : (v : Work) (k : ℕ) → Settles room (drop n text) then v k → Settles room text entry v (n + k)
 
-passed : (c : After-pass-first)
-    → let entry : Work = let a = c.args in work a.tally a.out.now a.list.now in
+-- the first run is passed
+passed : (c : After-pass-first) → Run c.args.text.now c.whole_run-run.result
+    → Begun c.args.room c.whole_run-run.result c.args.text.now
+    (work c.args.tally c.args.out.now c.args.list.now) (work c.pass-first.result c.pass-first.new.out c.args.list.now)
+passed c whole =
     let a = c.args in
-    then c ≡ acted a.room (run a.text.now c.whole_run-run.result) entry
-passed c =
-    let whole : Run c.args.text.now c.whole_run-run.result = run_at c.args.text.now c.whole_run-run.result c.whole_run-run.ensures in
-    let entry : Work = let a = c.args in work a.tally a.out.now a.list.now in
-    let a = c.args in
-    run-acted a.text.now c.whole_run-run.result whole a.room entry (then c) (c.pass-first.ensures a.list.now)
-
--- what is enough for all is enough for the rest
-ready : (c : After-pass-first)
-    → let a = c.args in
-    Ready a.room (parts bytes (drop c.whole_run-run.result a.text.now)).done (then c)
-ready c =
-    let entry : Work = let a = c.args in work a.tally a.out.now a.list.now in
-    let whole : Run c.args.text.now c.whole_run-run.result = run_at c.args.text.now c.whole_run-run.result c.whole_run-run.ensures in
-    let turn : let text = c.args.text.now in
     let n = c.whole_run-run.result in
-    Turn text n n (run text n) = run-turn c.args.text.now c.whole_run-run.result whole in
-    rest-ready c.args.room c.args.text.now entry c.requires turn (then c) (passed c)
-
--- and what the rest does is what is left to do
-settles : (c : After-pass-first) (v : Work) (k : ℕ)
-    → let a = c.args in
-    let n = c.whole_run-run.result in
-    Settles a.room (drop n a.text.now) (then c) v k → Settles a.room a.text.now (work a.tally a.out.now a.list.now) v (n + k)
-settles c =
-    let entry : Work = let a = c.args in work a.tally a.out.now a.list.now in
-    let whole : Run c.args.text.now c.whole_run-run.result = run_at c.args.text.now c.whole_run-run.result c.whole_run-run.ensures in
-    let turn : let text = c.args.text.now in
-    let n = c.whole_run-run.result in
-    Turn text n n (run text n) = run-turn c.args.text.now c.whole_run-run.result whole in
-    rest-settles c.args.room c.args.text.now entry c.requires turn (then c) (passed c)
+    let entry = work a.tally a.out.now a.list.now in
+    let then = work c.pass-first.result c.pass-first.new.out a.list.now in
+    let e = run-acted a.text.now n whole a.room entry then (c.pass-first.ensures a.list.now) in
+    let turn = run-turn a.text.now n whole in
+    record {
+      ready = rest-ready a.room a.text.now entry c.requires turn then e;
+      settles = rest-settles a.room a.text.now entry c.requires turn then e;
+    }
 
 pub returns-then-run-text : goal.returns-then-run-text
 returns-then-run-text c =
+    let way = goal.at.returns-then-run-text c in
     let n = c.whole_run-run.result in
     let a = c.args in
+    let then = work c.pass-first.result c.pass-first.new.out a.list.now in
+    let begun = passed way.After-pass-first (whole way.After-whole_run-run) in
     let none : length (drop n a.text.now) ≡ 0 = omega (arith, length-drop n a.text.now, c.if-run-text.true) in
     let e : n + 0 ≡ n = omega arith in
-    subst (Settles a.room a.text.now (entry (goal.at.returns-then-run-text c).Start) (then (goal.at.returns-then-run-text c).After-pass-first)) e
-    (settles (goal.at.returns-then-run-text c).After-pass-first (then (goal.at.returns-then-run-text c).After-pass-first) 0 (empty_settled a.room (drop n a.text.now) (then (goal.at.returns-then-run-text c).After-pass-first) (ready (goal.at.returns-then-run-text c).After-pass-first) none))
+    subst (Settles a.room a.text.now (work a.tally a.out.now a.list.now) then) e
+    (begun.settles then 0 (empty_settled a.room (drop n a.text.now) then begun.ready none))
 
 pub slice_bounds-walk_on-count : goal.slice_bounds-walk_on-count
 slice_bounds-walk_on-count c = (whole (goal.at.slice_bounds-walk_on-count c).After-whole_run-run).inside
@@ -97,37 +78,33 @@ slice_bounds-walk_on-start c = (whole (goal.at.slice_bounds-walk_on-start c).Aft
 
 pub walk_on-all-requires : goal.walk_on-all-requires
 walk_on-all-requires c =
+    let way = goal.at.walk_on-all-requires c in
     let a = c.args in
-    subst (λ (rest : List ℕ). Ready a.room (parts bytes rest).done (then (goal.at.walk_on-all-requires c).After-pass-first)) (sym (part_is a.text.now c.whole_run-run.result)) (ready (goal.at.walk_on-all-requires c).After-pass-first)
+    let then = work c.pass-first.result c.pass-first.new.out a.list.now in
+    subst (λ (rest : List ℕ). Ready a.room (parts bytes rest).done then) (sym (part_is a.text.now c.whole_run-run.result))
+    (passed way.After-pass-first (whole way.After-whole_run-run)).ready
 
 -- all has acted
 all : (c : After-walk_on-all)
-    → let entry : Work = let a = c.args in work a.tally a.out.now a.list.now in
-    Settles c.args.room c.args.text.now entry (work c.walk_on-all.result.tally c.walk_on-all.new.out c.walk_on-all.new.list)
-    (c.whole_run-run.result + c.walk_on-all.result.size)
-all c =
-    let then : Work = work c.pass-first.result c.pass-first.new.out c.args.list.now in
-    let entry : Work = let a = c.args in work a.tally a.out.now a.list.now in
-    let whole : Run c.args.text.now c.whole_run-run.result = run_at c.args.text.now c.whole_run-run.result c.whole_run-run.ensures in
-    let turn : let text = c.args.text.now in
-    let n = c.whole_run-run.result in
-    Turn text n n (run text n) = run-turn c.args.text.now c.whole_run-run.result whole in
-    let passed : let a = c.args in
-    then ≡ acted a.room (run a.text.now c.whole_run-run.result) entry = let a = c.args in
-    run-acted a.text.now c.whole_run-run.result whole a.room entry then (c.pass-first.ensures a.list.now) in
-    let settles : (v : Work) (k : ℕ)
-    → let a = c.args in
-    let n = c.whole_run-run.result in
-    Settles a.room (drop n a.text.now) then v k → Settles a.room a.text.now entry v (n + k) = rest-settles c.args.room c.args.text.now entry c.requires turn then passed in
-    let then : Work = work c.pass-first.result c.pass-first.new.out c.args.list.now in
+    → Begun c.args.room c.whole_run-run.result c.args.text.now
+    (work c.args.tally c.args.out.now c.args.list.now) (work c.pass-first.result c.pass-first.new.out c.args.list.now)
+    → Settles c.args.room c.args.text.now (work c.args.tally c.args.out.now c.args.list.now)
+    (work c.walk_on-all.result.tally c.walk_on-all.new.out c.walk_on-all.new.list) (c.whole_run-run.result + c.walk_on-all.result.size)
+all c passed =
     let a = c.args in
+    let then = work c.pass-first.result c.pass-first.new.out a.list.now in
     let v = work c.walk_on-all.result.tally c.walk_on-all.new.out c.walk_on-all.new.list in
-    settles v c.walk_on-all.result.size
-    (subst (λ (rest : List ℕ). Settles a.room rest then v c.walk_on-all.result.size) (part_is a.text.now c.whole_run-run.result) c.walk_on-all.ensures)
+    let k = c.walk_on-all.result.size in
+    passed.settles v k
+    (subst (λ (rest : List ℕ). Settles a.room rest then v k) (part_is a.text.now c.whole_run-run.result) c.walk_on-all.ensures)
 
 pub overflow_add-result : goal.overflow_add-result
 overflow_add-result c =
-    omega (arith, (all (goal.at.overflow_add-result c).After-walk_on-all).bytes-are, c.requires.sums)
+    let way = goal.at.overflow_add-result c in
+    let begun = passed way.After-pass-first (whole way.After-whole_run-run) in
+    omega (arith, (all way.After-walk_on-all begun).bytes-are, c.requires.sums)
 
 pub returns : goal.returns
-returns c = all (goal.at.returns c).After-walk_on-all
+returns c =
+    let way = goal.at.returns c in
+    all way.After-walk_on-all (passed way.After-pass-first (whole way.After-whole_run-run))
