@@ -24,7 +24,8 @@ three c = c.well_formed.1.0.1.1.0.1.0.1
 pub overflow_add-taken : goal.overflow_add-taken
 overflow_add-taken c =
     let a = c.args in
-    omega (arith, join-within a.state a.piece.now a.list.now a.seam.now c.requires.0 c.requires.1 (three (goal.at.overflow_add-taken c).Start))
+    let full = three (goal.at.overflow_add-taken c).Start in
+    omega (arith, join-within a.state a.piece.now a.list.now a.seam.now c.requires.0 c.requires.1 full)
 
 -- how many bytes are settled at the seam
 size_is : (c : After-settled_size-size)
@@ -35,61 +36,61 @@ size_is c =
 
 pub returns-then-size-state : goal.returns-then-size-state
 returns-then-size-state c =
+    let way = goal.at.returns-then-size-state c in
     let a = c.args in
     answers-still a.state (a.state.taken + length a.piece.now) a.piece.now a.out.now a.list.now a.seam.now c.keep.result
-    (join-none a.state a.piece.now a.list.now a.seam.now c.requires.0 c.requires.1 (three (goal.at.returns-then-size-state c).Start) (omega (arith, size_is (goal.at.returns-then-size-state c).After-settled_size-size, c.if-size-state.true)))
+    (join-none a.state a.piece.now a.list.now a.seam.now c.requires.0 c.requires.1 (three way.Start)
+    (omega (arith, size_is way.After-settled_size-size, c.if-size-state.true)))
     (rw c.open_tally.ensures at c.keep.ensures)
 
 -- the segment reaches over what is pending, and ends in the piece
-over : (c : Else-size-state)
-    → let a = c.args in
-    a.state.pending ≤ total size (first_settled bytes a.seam.now)
-over c =
-    let size_is : c.settled_size-size.result ≡ total size (first_settled bytes c.args.seam.now) = let seam = c.args.seam.now in
-    c.settled_size-size.ensures ∙ told-size c.first_of-seg.result seam c.first_of-seg.ensures in
-    omega (arith, size_is, c.if-size-state.false)
+over : (c : Else-size-state) → c.settled_size-size.result ≡ total size (first_settled bytes c.args.seam.now)
+    → c.args.state.pending ≤ total size (first_settled bytes c.args.seam.now)
+over c size_is = omega (arith, size_is, c.if-size-state.false)
 
-inside : (c : Else-size-state)
-    → let a = c.args in
-    c.settled_size-size.result - a.state.pending ≤ length a.piece.now
-inside c =
-    let size_is : c.settled_size-size.result ≡ total size (first_settled bytes c.args.seam.now) = let seam = c.args.seam.now in
-    c.settled_size-size.ensures ∙ told-size c.first_of-seg.result seam c.first_of-seg.ensures in
-    let three : length c.args.state.held ≡ most_pending = c.well_formed.1.0.1.1.0.1.0.1 in
+inside : (c : Else-size-state) → length c.args.state.held ≡ most_pending
+    → c.settled_size-size.result ≡ total size (first_settled bytes c.args.seam.now)
+    → c.settled_size-size.result - c.args.state.pending ≤ length c.args.piece.now
+inside c three size_is =
     let a = c.args in
-    omega (arith, size_is, join-inside a.state a.piece.now a.list.now a.seam.now c.requires.0 c.requires.1 three (over c))
+    omega (arith, size_is, join-inside a.state a.piece.now a.list.now a.seam.now c.requires.0 c.requires.1 three (over c size_is))
 
 -- the text behind it
-rest-is : (c : Else-size-state)
+rest-is : (c : Else-size-state) → c.settled_size-size.result ≡ total size (first_settled bytes c.args.seam.now)
     → let a = c.args in
     let from = c.settled_size-size.result - a.state.pending in
     let piece = a.piece.now in
     take (length piece - from) (drop from piece) ≡ drop (total size (first_settled bytes a.seam.now) - a.state.pending) piece
-rest-is c =
-    let size_is : c.settled_size-size.result ≡ total size (first_settled bytes c.args.seam.now) = let seam = c.args.seam.now in
-    c.settled_size-size.ensures ∙ told-size c.first_of-seg.result seam c.first_of-seg.ensures in
-    rw (part_is, size_is)
+rest-is c size_is = rw (part_is, size_is)
 
 pub slice_bounds-feed_rest-count : goal.slice_bounds-feed_rest-count
-slice_bounds-feed_rest-count c = inside (goal.at.slice_bounds-feed_rest-count c).Else-size-state
+slice_bounds-feed_rest-count c =
+    let way = goal.at.slice_bounds-feed_rest-count c in
+    inside way.Else-size-state (three way.Start) (size_is way.After-settled_size-size)
 
 pub slice_bounds-feed_rest-start : goal.slice_bounds-feed_rest-start
-slice_bounds-feed_rest-start c = inside (goal.at.slice_bounds-feed_rest-start c).Else-size-state
+slice_bounds-feed_rest-start c =
+    let way = goal.at.slice_bounds-feed_rest-start c in
+    inside way.Else-size-state (three way.Start) (size_is way.After-settled_size-size)
 
 pub feed_rest-requires : goal.feed_rest-requires
 feed_rest-requires c =
+    let way = goal.at.feed_rest-requires c in
     let a = c.args in
-    subst (λ (rest : List ℕ). Rests a.state c.first_of-seg.result a.seam.now rest a.list.now) (sym (rest-is (goal.at.feed_rest-requires c).Else-size-state))
-    (join-rests a.state a.piece.now a.list.now a.seam.now c.requires.0 c.requires.1 (three (goal.at.feed_rest-requires c).Start) (over (goal.at.feed_rest-requires c).Else-size-state)
+    let is = size_is way.After-settled_size-size in
+    subst (λ (rest : List ℕ). Rests a.state c.first_of-seg.result a.seam.now rest a.list.now) (sym (rest-is way.Else-size-state is))
+    (join-rests a.state a.piece.now a.list.now a.seam.now c.requires.0 c.requires.1 (three way.Start) (over way.Else-size-state is)
     c.first_of-seg.result c.first_of-seg.ensures)
 
 pub returns : goal.returns
 returns c =
+    let way = goal.at.returns c in
     let a = c.args in
+    let is = size_is way.After-settled_size-size in
     let taken = a.state.taken + length a.piece.now in
     let out' = c.feed_rest.new.out in
     let list' = c.feed_rest.new.list in
     subst (λ (s : State Log). Answers a.state taken s a.out.now a.list.now out' list' c.feed_rest.result)
-    (sym (join-behind a.state a.piece.now a.list.now a.seam.now c.requires.0 c.requires.1 (three (goal.at.returns c).Start) (over (goal.at.returns c).Else-size-state)))
+    (sym (join-behind a.state a.piece.now a.list.now a.seam.now c.requires.0 c.requires.1 (three way.Start) (over way.Else-size-state is)))
     (subst (λ (rest : List ℕ). Answers a.state taken (behind a.state a.seam.now rest a.list.now)
-    a.out.now a.list.now out' list' c.feed_rest.result) (rest-is (goal.at.returns c).Else-size-state) c.feed_rest.ensures)
+    a.out.now a.list.now out' list' c.feed_rest.result) (rest-is way.Else-size-state is) c.feed_rest.ensures)
