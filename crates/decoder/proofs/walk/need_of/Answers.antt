@@ -19,7 +19,9 @@ use Rattle.decoder.proofs.walk.need_of.Goals as goal
 whole : (c : After-whole_run-run) → Run c.args.text.now c.whole_run-run.result
 whole c = run_at c.args.text.now c.whole_run-run.result c.whole_run-run.ensures
 
-first : (c : After-whole_run-run) → let text = c.args.text.now in Counted text (drop c.whole_run-run.result text) (0 + c.whole_run-run.result)
+first : (c : After-whole_run-run)
+    → let text = c.args.text.now in
+    Counted text (drop c.whole_run-run.result text) (0 + c.whole_run-run.result)
 first c =
     let text = c.args.text.now in
     counted_next text (counted_start text) (run-turn text c.whole_run-run.result (whole c))
@@ -38,11 +40,10 @@ slice_bounds-need_on-start c = (whole (goal.at.slice_bounds-need_on-start c).Aft
 
 -- both are counted
 both : (c : After-need_on)
-    → c.whole_run-run.result + c.need_on.result ≡ need (parts bytes c.args.text.now).done
-both c =
-    let whole : Run c.args.text.now c.whole_run-run.result = run_at c.args.text.now c.whole_run-run.result c.whole_run-run.ensures in
-    let first : let text = c.args.text.now in Counted text (drop c.whole_run-run.result text) (0 + c.whole_run-run.result) = let text = c.args.text.now in
-    counted_next text (counted_start text) (run-turn text c.whole_run-run.result whole) in
+    → let text = c.args.text.now in
+    Counted text (drop c.whole_run-run.result text) (0 + c.whole_run-run.result)
+    → c.whole_run-run.result + c.need_on.result ≡ need (parts bytes text).done
+both c first =
     let text = c.args.text.now in
     let e : c.need_on.result ≡ need (parts bytes (drop c.whole_run-run.result text)).done
     = c.need_on.ensures ∙ ap (λ (xs : List ℕ). need (parts bytes xs).done) (part_is text c.whole_run-run.result) in
@@ -50,7 +51,10 @@ both c =
 
 pub overflow_add-result : goal.overflow_add-result
 overflow_add-result c =
-    omega (arith, both c, parts_small c.args.text.now, c.requires)
+    let way = goal.at.overflow_add-result c in
+    omega (arith, both way.After-need_on (first way.After-whole_run-run), parts_small c.args.text.now, c.requires)
 
 pub returns : goal.returns
-returns c = both c
+returns c =
+    let way = goal.at.returns c in
+    both way.After-need_on (first way.After-whole_run-run)
