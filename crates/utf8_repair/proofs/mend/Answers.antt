@@ -21,51 +21,66 @@ told c =
     c.segment_by.ensures ∙ ap (λ look. first_says look c.args.text.now) c.requires.classes_value
 
 -- a whole segment
-pointed : (c : In-Whole) → Pointed utf8 c.args.text.now c.in-Whole.n
-pointed c =
-    let told : told_first c.segment_by.result ≡ first_says bytes c.args.text.now = c.segment_by.ensures ∙ ap (λ look. first_says look c.args.text.now) c.requires.classes_value in
-    point-whole utf8 bytes_division c.args.text.now _ (told) _ c.in-Whole.is
+pointed : (c : In-Whole) → told_first c.segment_by.result ≡ first_says bytes c.args.text.now → Pointed utf8 c.args.text.now c.in-Whole.n
+pointed c told = point-whole utf8 bytes_division c.args.text.now _ told _ c.in-Whole.is
 
 pub slice_bounds-pass-end : goal.slice_bounds-pass-end
-slice_bounds-pass-end c = sym (length-take-le _ _ (pointed c).inside)
+slice_bounds-pass-end c =
+    let way = goal.at.slice_bounds-pass-end c in
+    sym (length-take-le _ _ (pointed way.In-Whole (told way.After-segment_by)).inside)
 
 pub pass-requires : goal.pass-requires
 pass-requires c =
-    whole_room c.args.text.now c.requires.text_nonzero.0 _ (pointed (goal.at.pass-requires c).In-Whole) c.args.out.now c.requires.text_nonzero.1
+    let way = goal.at.pass-requires c in
+    whole_room c.args.text.now c.requires.text_nonzero.0 _ (pointed way.In-Whole (told way.After-segment_by))
+    c.args.out.now c.requires.text_nonzero.1
 
 -- a damage
-damaged : (c : In-Damage) → replacement ∷ c.in-Damage.n ∷ [] ≡ point_says utf8 c.args.text.now
-damaged c =
-    let told : told_first c.segment_by.result ≡ first_says bytes c.args.text.now = c.segment_by.ensures ∙ ap (λ look. first_says look c.args.text.now) c.requires.classes_value in
-    point-damage utf8 bytes_division c.args.text.now _ (told) _ _ c.in-Damage.is
+damaged : (c : In-Damage) → told_first c.segment_by.result ≡ first_says bytes c.args.text.now
+    → replacement ∷ c.in-Damage.n ∷ [] ≡ point_says utf8 c.args.text.now
+damaged c told = point-damage utf8 bytes_division c.args.text.now _ told _ _ c.in-Damage.is
 
 pub mark-requires : goal.mark-requires
 mark-requires c =
-    damage-room c.args.text.now c.requires.text_nonzero.0 _ (damaged (goal.at.mark-requires c).In-Damage) c.args.out.now c.requires.text_nonzero.1
+    let way = goal.at.mark-requires c in
+    damage-room c.args.text.now c.requires.text_nonzero.0 _ (damaged way.In-Damage (told way.After-segment_by))
+    c.args.out.now c.requires.text_nonzero.1
 
 -- a damage that ends the text
-begun : (c : In-Begun) → replacement ∷ c.in-Begun.n ∷ [] ≡ point_says utf8 c.args.text.now
-begun c =
-    let told : told_first c.segment_by.result ≡ first_says bytes c.args.text.now = c.segment_by.ensures ∙ ap (λ look. first_says look c.args.text.now) c.requires.classes_value in
-    point-begun utf8 bytes_division c.args.text.now _ (told) _ c.in-Begun.is
+begun : (c : In-Begun) → told_first c.segment_by.result ≡ first_says bytes c.args.text.now
+    → replacement ∷ c.in-Begun.n ∷ [] ≡ point_says utf8 c.args.text.now
+begun c told = point-begun utf8 bytes_division c.args.text.now _ told _ c.in-Begun.is
 
 pub mark-requires-in-Begun : goal.mark-requires-in-Begun
 mark-requires-in-Begun c =
-    damage-room c.args.text.now c.requires.text_nonzero.0 _ (begun (goal.at.mark-requires-in-Begun c).In-Begun) c.args.out.now c.requires.text_nonzero.1
+    let way = goal.at.mark-requires-in-Begun c in
+    damage-room c.args.text.now c.requires.text_nonzero.0 _ (begun way.In-Begun (told way.After-segment_by))
+    c.args.out.now c.requires.text_nonzero.1
 
 -- the text is not empty
 pub returns-in-Nothing : goal.returns-in-Nothing
 returns-in-Nothing c =
-    absurd (omega (arith, c.requires.text_nonzero.0, ap length (nothing_seen bytes c.args.text.now (ap told_first (sym c.in-Nothing.is) ∙ told (goal.at.returns-in-Nothing c).After-segment_by))))
+    let said = told (goal.at.returns-in-Nothing c).After-segment_by in
+    absurd (omega (
+      arith,
+      c.requires.text_nonzero.0,
+      ap length (nothing_seen bytes c.args.text.now (ap told_first (sym c.in-Nothing.is) ∙ said)),
+    ))
 
 pub returns-in-Whole : goal.returns-in-Whole
 returns-in-Whole c =
-    whole-passes c.args.text.now c.requires.text_nonzero.0 _ (pointed (goal.at.returns-in-Whole c).In-Whole) c.args.out.now _ _ _ c.pass.ensures
+    let way = goal.at.returns-in-Whole c in
+    whole-passes c.args.text.now c.requires.text_nonzero.0 _ (pointed way.In-Whole (told way.After-segment_by))
+    c.args.out.now _ _ _ c.pass.ensures
 
 pub returns-in-Damage : goal.returns-in-Damage
 returns-in-Damage c =
-    damage-passes c.args.text.now c.requires.text_nonzero.0 _ (damaged (goal.at.returns-in-Damage c).In-Damage) c.args.out.now _ _ _ c.mark.ensures
+    let way = goal.at.returns-in-Damage c in
+    damage-passes c.args.text.now c.requires.text_nonzero.0 _ (damaged way.In-Damage (told way.After-segment_by))
+    c.args.out.now _ _ _ c.mark.ensures
 
 pub returns-in-Begun : goal.returns-in-Begun
 returns-in-Begun c =
-    damage-passes c.args.text.now c.requires.text_nonzero.0 _ (begun (goal.at.returns-in-Begun c).In-Begun) c.args.out.now _ _ _ c.mark-in-Begun.ensures
+    let way = goal.at.returns-in-Begun c in
+    damage-passes c.args.text.now c.requires.text_nonzero.0 _ (begun way.In-Begun (told way.After-segment_by))
+    c.args.out.now _ _ _ c.mark-in-Begun.ensures
