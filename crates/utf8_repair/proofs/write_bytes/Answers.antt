@@ -29,7 +29,8 @@ ran c =
 pub returns-then-run-text : goal.returns-then-run-text
 returns-then-run-text c =
     let a = c.args in
-    let e = wrote-end utf8 utf8 a.text.now a.out.now c.copy.new.out a.run a.run (ran (goal.at.returns-then-run-text c).After-copy) (omega (arith, c.if-run-text.true)) in
+    let wrote = ran (goal.at.returns-then-run-text c).After-copy in
+    let e = wrote-end utf8 utf8 a.text.now a.out.now c.copy.new.out a.run a.run wrote (omega (arith, c.if-run-text.true)) in
     record { count = e.0; output = e.1 }
 
 pub slice_bounds-write_on-count : goal.slice_bounds-write_on-count
@@ -52,20 +53,24 @@ slice_bounds-write_on-end-2 c =
 
 pub write_on-requires : goal.write_on-requires
 write_on-requires c =
-    rest-room utf8 utf8 c.args.text.now c.args.out.now c.copy.new.out c.args.run c.args.run (ran (goal.at.write_on-requires c).After-copy) c.requires.1
+    let a = c.args in
+    rest-room utf8 utf8 a.text.now a.out.now c.copy.new.out a.run a.run (ran (goal.at.write_on-requires c).After-copy) c.requires.1
 
 -- and with the rest
 all : (c : After-write_on)
     → let a = c.args in
-    Puts (converted utf8 utf8 a.text.now) a.out.now (back c.copy.new.out a.run c.write_on.new.out) (a.run + c.write_on.result)
-all c =
-    let ran : let a = c.args in
-    Wrote utf8 utf8 a.text.now a.out.now c.copy.new.out a.run a.run = first-wrote c.args.text.now c.args.run c.requires.0 c.args.out.now c.copy.new.out c.requires.1 c.copy.ensures in
-    wrote-rest c.args.text.now c.args.out.now c.copy.new.out c.args.run c.args.run (ran) c.requires.1 c.write_on.new.out c.write_on.result c.write_on.ensures
+    Wrote utf8 utf8 a.text.now a.out.now c.copy.new.out a.run a.run
+    → Puts (converted utf8 utf8 a.text.now) a.out.now (back c.copy.new.out a.run c.write_on.new.out) (a.run + c.write_on.result)
+all c ran =
+    let a = c.args in
+    wrote-rest a.text.now a.out.now c.copy.new.out a.run a.run ran c.requires.1 c.write_on.new.out c.write_on.result c.write_on.ensures
 
 pub overflow_add-result : goal.overflow_add-result
 overflow_add-result c =
-    omega (arith, (all (goal.at.overflow_add-result c).After-write_on).count, c.requires.1, c.well_formed)
+    let way = goal.at.overflow_add-result c in
+    omega (arith, (all way.After-write_on (ran way.After-copy)).count, c.requires.1, c.well_formed)
 
 pub returns : goal.returns
-returns c = all (goal.at.returns c).After-write_on
+returns c =
+    let way = goal.at.returns c in
+    all way.After-write_on (ran way.After-copy)
