@@ -27,15 +27,17 @@ slice_bounds-need_on-start c = let i = (ran c).inside in search rules
 -- and with the rest
 all : (c : After-need_on)
     → let a = c.args in
-    a.run + c.need_on.result ≡ length (converted utf8 utf8 a.text.now)
-all c =
-    let ran : let a = c.args in Counted utf8 utf8 a.text.now a.run a.run = first_counted c.args.text.now c.args.run c.requires.1 in
+    Counted utf8 utf8 a.text.now a.run a.run → a.run + c.need_on.result ≡ length (converted utf8 utf8 a.text.now)
+all c ran =
     let a = c.args in
-    omega (arith, (ran).same, c.need_on.ensures ∙ ap (λ l. length (converted utf8 utf8 l)) (part_is a.text.now a.run))
+    omega (arith, ran.same, c.need_on.ensures ∙ ap (λ l. length (converted utf8 utf8 l)) (part_is a.text.now a.run))
 
 pub overflow_add-result : goal.overflow_add-result
 overflow_add-result c =
-    omega (arith, all c, text_few Bytes Bytes c.args.text.now, c.requires.0)
+    let way = goal.at.overflow_add-result c in
+    omega (arith, all way.After-need_on (ran way.After-shared_slice_known-1), text_few Bytes Bytes c.args.text.now, c.requires.0)
 
 pub returns : goal.returns
-returns c = all c
+returns c =
+    let way = goal.at.returns c in
+    all way.After-need_on (ran way.After-shared_slice_known-1)
