@@ -63,12 +63,10 @@ returns-then-run-text c =
     let way = goal.at.returns-then-run-text c in
     let n = c.whole_run-run.result in
     let a = c.args in
-    let then = work c.pass-first.result c.pass-first.new.out a.list.now in
     let begun = passed way.After-pass-first (whole way.After-whole_run-run) in
     let none : length (drop n a.text.now) ≡ 0 = omega (arith, length-drop n a.text.now, c.if-run-text.true) in
     let e : n + 0 ≡ n = omega arith in
-    subst (Settles a.room a.text.now (work a.tally a.out.now a.list.now) then) e
-    (begun.settles then 0 (empty_settled a.room (drop n a.text.now) then begun.ready none))
+    subst (Settles a.room a.text.now _ _) e (begun.settles _ 0 (empty_settled a.room (drop n a.text.now) _ begun.ready none))
 
 pub slice_bounds-walk_on-count : goal.slice_bounds-walk_on-count
 slice_bounds-walk_on-count c = (whole (goal.at.slice_bounds-walk_on-count c).After-whole_run-run).inside
