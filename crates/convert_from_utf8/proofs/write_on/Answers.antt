@@ -29,7 +29,8 @@ here : (c : After-point_by-p)
     → Met utf8 c.args.text.now c.loop-rest.invariant.at c.point_by-p.result.size c.point_by-p.result.number
 unfolding classes table
 here c =
-    met-there c.args.text.now c.loop-rest.rest.now c.loop-rest.invariant.at c.loop-rest.invariant.rest-is _ c.loop-rest.invariant.reads c.loop-rest-test.true _ _ c.point_by-p.ensures
+    let v = c.loop-rest.invariant in
+    met-there c.args.text.now c.loop-rest.rest.now v.at v.rest-is _ v.reads c.loop-rest-test.true _ _ c.point_by-p.ensures
 
 -- it ends within the rest
 ends : (c : After-point_by-p) → c.point_by-p.result.size ≤ length c.loop-rest.rest.now
@@ -50,18 +51,20 @@ slice_bounds-put_units-end c = let w = c.loop-rest.invariant.wrote in let i = w.
 
 -- what is written behind it
 next : (c : After-put_units-done)
+    (here : Met utf8 c.args.text.now c.loop-rest.invariant.at c.point_by-p.result.size c.point_by-p.result.number)
     → let a = c.args in
     Wrote utf8 utf16 a.text.now a.out.now (back c.loop-rest.out c.loop-rest.done c.put_units-done.new.out)
     (c.loop-rest.invariant.at + c.point_by-p.result.size) (c.loop-rest.done + c.put_units-done.result)
-unfolding classes table
-next c =
-    let here : Met utf8 c.args.text.now c.loop-rest.invariant.at c.point_by-p.result.size c.point_by-p.result.number = met-there c.args.text.now c.loop-rest.rest.now c.loop-rest.invariant.at c.loop-rest.invariant.rest-is _ c.loop-rest.invariant.reads c.loop-rest-test.true _ _ c.point_by-p.ensures in
-    wrote-put utf8 utf16 c.args.text.now c.args.out.now c.loop-rest.out c.loop-rest.invariant.at c.loop-rest.done
-    c.loop-rest.invariant.wrote c.requires _ _ here c.put_units-done.new.out c.put_units-done.result c.put_units-done.ensures
+next c here =
+    let v = c.loop-rest.invariant in
+    let d = c.put_units-done in
+    wrote-put utf8 utf16 c.args.text.now c.args.out.now c.loop-rest.out v.at c.loop-rest.done v.wrote c.requires _ _ here
+    d.new.out d.result d.ensures
 
 pub overflow_add-done : goal.overflow_add-done
 overflow_add-done c =
-    omega (arith, (next (goal.at.overflow_add-done c).After-put_units-done).within, c.well_formed)
+    let h = here (goal.at.overflow_add-done c).After-point_by-p in
+    omega (arith, (next (goal.at.overflow_add-done c).After-put_units-done h).within, c.well_formed)
 
 pub slice_bounds-behind-count : goal.slice_bounds-behind-count
 slice_bounds-behind-count c = ends (goal.at.slice_bounds-behind-count c).After-point_by-p
@@ -84,63 +87,69 @@ slice_bounds-spell_run-end c =
 
 pub offset_bounds-out-done-in-loop-rest : goal.offset_bounds-out-done-in-loop-rest
 offset_bounds-out-done-in-loop-rest c =
-    let w = next (goal.at.offset_bounds-out-done-in-loop-rest c).After-put_units-done in
+    let h = here (goal.at.offset_bounds-out-done-in-loop-rest c).After-point_by-p in
+    let w = next (goal.at.offset_bounds-out-done-in-loop-rest c).After-put_units-done h in
     omega (arith, w.within, w.long, c.well_formed)
 
 pub slice_bounds-spell_run-count : goal.slice_bounds-spell_run-count
 slice_bounds-spell_run-count c =
-    let w = next (goal.at.slice_bounds-spell_run-count c).After-put_units-done in let i = w.within in let j = w.long in search rules
+    let h = here (goal.at.slice_bounds-spell_run-count c).After-point_by-p in
+    let w = next (goal.at.slice_bounds-spell_run-count c).After-put_units-done h in let i = w.within in let j = w.long in search rules
 
 pub slice_bounds-spell_run-start : goal.slice_bounds-spell_run-start
 slice_bounds-spell_run-start c =
-    let w = next (goal.at.slice_bounds-spell_run-start c).After-put_units-done in let i = w.within in let j = w.long in search rules
+    let h = here (goal.at.slice_bounds-spell_run-start c).After-point_by-p in
+    let w = next (goal.at.slice_bounds-spell_run-start c).After-put_units-done h in let i = w.within in let j = w.long in search rules
 
 pub slice_bounds-spell_run-end-in-loop-rest : goal.slice_bounds-spell_run-end-in-loop-rest
 slice_bounds-spell_run-end-in-loop-rest c =
-    let w = next (goal.at.slice_bounds-spell_run-end-in-loop-rest c).After-put_units-done in let i = w.within in let j = w.long in search rules
+    let h = here (goal.at.slice_bounds-spell_run-end-in-loop-rest c).After-point_by-p in
+    let w = next (goal.at.slice_bounds-spell_run-end-in-loop-rest c).After-put_units-done h in
+    let i = w.within in let j = w.long in search rules
 
 passes : (c : After-paced_run-run)
+    (here : Met utf8 c.args.text.now c.loop-rest.invariant.at c.point_by-p.result.size c.point_by-p.result.number)
     → let text = c.args.text.now in
     let size = c.point_by-p.result.size in
-    Passed (left utf8 utf16 text) (length text) (c.loop-rest.invariant.at + size) c.paced_run-run.result (spelled (take c.paced_run-run.result (lent c.loop-rest.rest.now size)))
-unfolding classes table
-passes c =
-    let here : Met utf8 c.args.text.now c.loop-rest.invariant.at c.point_by-p.result.size c.point_by-p.result.number = met-there c.args.text.now c.loop-rest.rest.now c.loop-rest.invariant.at c.loop-rest.invariant.rest-is _ c.loop-rest.invariant.reads c.loop-rest-test.true _ _ c.point_by-p.ensures in
+    let run = c.paced_run-run.result in
+    Passed (left utf8 utf16 text) (length text) (c.loop-rest.invariant.at + size) run (spelled (take run (lent c.loop-rest.rest.now size)))
+passes c here =
     let v = c.loop-rest.invariant in
     let text = c.args.text.now in
+    let rest = c.loop-rest.rest.now in
     let size = c.point_by-p.result.size in
-    passed-spelled text (lent c.loop-rest.rest.now size) (v.at + size) (lent-there text c.loop-rest.rest.now v.at v.rest-is size) here.inside c.paced_run-run.result (ran c)
+    let behind = lent-there text rest v.at v.rest-is size in
+    passed-spelled text (lent rest size) (v.at + size) behind here.inside c.paced_run-run.result (ran c)
 
 pub spell_run-done-requires : goal.spell_run-done-requires
 spell_run-done-requires c =
-    room-on c.args.text.now _ _ _ (passes (goal.at.spell_run-done-requires c).After-paced_run-run) c.args.out.now (back c.loop-rest.out c.loop-rest.done c.put_units-done.new.out) (c.loop-rest.done + c.put_units-done.result) (next (goal.at.spell_run-done-requires c).After-put_units-done) c.requires
+    let h = here (goal.at.spell_run-done-requires c).After-point_by-p in
+    let p = passes (goal.at.spell_run-done-requires c).After-paced_run-run h in
+    let w = next (goal.at.spell_run-done-requires c).After-put_units-done h in
+    room-on c.args.text.now _ _ _ p c.args.out.now _ _ w c.requires
 
 -- and what is written behind that
 after : (c : After-spell_run-done)
-    → let a = c.args in
-    Wrote utf8 utf16 a.text.now a.out.now
-    (back (back c.loop-rest.out c.loop-rest.done c.put_units-done.new.out) (c.loop-rest.done + c.put_units-done.result) c.spell_run-done.new.out)
-    (c.loop-rest.invariant.at + c.point_by-p.result.size + c.paced_run-run.result) (c.loop-rest.done + c.put_units-done.result + c.spell_run-done.result)
-unfolding classes table
-after c =
-    let here : Met utf8 c.args.text.now c.loop-rest.invariant.at c.point_by-p.result.size c.point_by-p.result.number = met-there c.args.text.now c.loop-rest.rest.now c.loop-rest.invariant.at c.loop-rest.invariant.rest-is _ c.loop-rest.invariant.reads c.loop-rest-test.true _ _ c.point_by-p.ensures in
-    let ran : Run (lent c.loop-rest.rest.now c.point_by-p.result.size) c.paced_run-run.result = run_paced (lent c.loop-rest.rest.now c.point_by-p.result.size) c.loop-rest.pace c.paced_run-run.result c.paced_run-run.ensures in
-    let passes : let text = c.args.text.now in
+    → let text = c.args.text.now in
+    let before = c.args.out.now in
     let size = c.point_by-p.result.size in
-    Passed (left utf8 utf16 text) (length text) (c.loop-rest.invariant.at + size) c.paced_run-run.result (spelled (take c.paced_run-run.result (lent c.loop-rest.rest.now size))) = let v = c.loop-rest.invariant in
-    let text = c.args.text.now in
-    let size = c.point_by-p.result.size in
-    passed-spelled text (lent c.loop-rest.rest.now size) (v.at + size) (lent-there text c.loop-rest.rest.now v.at v.rest-is size) here.inside c.paced_run-run.result ran in
-    let next : let a = c.args in
-    Wrote utf8 utf16 a.text.now a.out.now (back c.loop-rest.out c.loop-rest.done c.put_units-done.new.out)
-    (c.loop-rest.invariant.at + c.point_by-p.result.size) (c.loop-rest.done + c.put_units-done.result) = wrote-put utf8 utf16 c.args.text.now c.args.out.now c.loop-rest.out c.loop-rest.invariant.at c.loop-rest.done
-    c.loop-rest.invariant.wrote c.requires _ _ here c.put_units-done.new.out c.put_units-done.result c.put_units-done.ensures in
-    wrote_on c.args.text.now _ _ _ passes c.args.out.now (back c.loop-rest.out c.loop-rest.done c.put_units-done.new.out) (c.loop-rest.done + c.put_units-done.result) next c.requires
-    c.spell_run-done.new.out c.spell_run-done.result c.spell_run-done.ensures
+    let at = c.loop-rest.invariant.at + size in
+    let run = c.paced_run-run.result in
+    let out = back c.loop-rest.out c.loop-rest.done c.put_units-done.new.out in
+    let done = c.loop-rest.done + c.put_units-done.result in
+    (passes : Passed (left utf8 utf16 text) (length text) at run (spelled (take run (lent c.loop-rest.rest.now size))))
+    (next : Wrote utf8 utf16 text before out at done)
+    → Wrote utf8 utf16 text before (back out done c.spell_run-done.new.out) (at + run) (done + c.spell_run-done.result)
+after c passes next =
+    let d = c.spell_run-done in
+    wrote_on c.args.text.now _ _ _ passes c.args.out.now _ _ next c.requires d.new.out d.result d.ensures
 
 pub overflow_add-done-in-loop-rest : goal.overflow_add-done-in-loop-rest
 overflow_add-done-in-loop-rest c =
-    omega (arith, (after (goal.at.overflow_add-done-in-loop-rest c).After-spell_run-done).within, c.well_formed)
+    let h = here (goal.at.overflow_add-done-in-loop-rest c).After-point_by-p in
+    let p = passes (goal.at.overflow_add-done-in-loop-rest c).After-paced_run-run h in
+    let w = next (goal.at.overflow_add-done-in-loop-rest c).After-put_units-done h in
+    omega (arith, (after (goal.at.overflow_add-done-in-loop-rest c).After-spell_run-done p w).within, c.well_formed)
 
 pub slice_bounds-rest-count : goal.slice_bounds-rest-count
 slice_bounds-rest-count c = (ran (goal.at.slice_bounds-rest-count c).After-paced_run-run).inside
@@ -155,18 +164,25 @@ pub loop-rest-smaller : goal.loop-rest-smaller
 loop-rest-smaller c =
     let rest = c.loop-rest.rest.now in
     let size = c.point_by-p.result.size in
-    omega (arith, (here (goal.at.loop-rest-smaller c).After-point_by-p).some, ends (goal.at.loop-rest-smaller c).After-point_by-p, lent-long rest size, lent-long (lent rest size) c.paced_run-run.result)
+    let h = here (goal.at.loop-rest-smaller c).After-point_by-p in
+    let e = ends (goal.at.loop-rest-smaller c).After-point_by-p in
+    omega (arith, h.some, e, lent-long rest size, lent-long (lent rest size) c.paced_run-run.result)
 
 pub loop-rest-preserved : goal.loop-rest-preserved
 loop-rest-preserved c =
     let v = c.loop-rest.invariant in
     let text = c.args.text.now in
+    let rest = c.loop-rest.rest.now in
     let size = c.point_by-p.result.size in
+    let behind = lent-there text rest v.at v.rest-is size in
+    let h = here (goal.at.loop-rest-preserved c).After-point_by-p in
+    let p = passes (goal.at.loop-rest-preserved c).After-paced_run-run h in
+    let w = next (goal.at.loop-rest-preserved c).After-put_units-done h in
     record {
       reads = v.reads;
       at = v.at + size + c.paced_run-run.result;
-      rest-is = lent-there text (lent c.loop-rest.rest.now size) (v.at + size) (lent-there text c.loop-rest.rest.now v.at v.rest-is size) c.paced_run-run.result;
-      wrote = after (goal.at.loop-rest-preserved c).After-spell_run-done;
+      rest-is = lent-there text (lent rest size) (v.at + size) behind c.paced_run-run.result;
+      wrote = after (goal.at.loop-rest-preserved c).After-spell_run-done p w;
     }
 
 pub shape_of-out : goal.shape_of-out
@@ -177,5 +193,6 @@ returns c =
     let v = c.loop-rest.invariant in
     let a = c.args in
     let text = a.text.now in
-    let e = wrote-end utf8 utf16 text a.out.now c.loop-rest.out v.at c.loop-rest.done v.wrote (omega (arith, part_end text c.loop-rest.rest.now v.at v.rest-is, c.loop-rest-test.false)) in
+    let e = wrote-end utf8 utf16 text a.out.now c.loop-rest.out v.at c.loop-rest.done v.wrote
+    (omega (arith, part_end text c.loop-rest.rest.now v.at v.rest-is, c.loop-rest-test.false)) in
     record { count = e.0; output = e.1 }
