@@ -27,20 +27,21 @@ here : (c : After-point_by-p)
     → Met utf8 c.args.text.now c.loop-rest.invariant.at c.point_by-p.result.size c.point_by-p.result.number
 unfolding classes table
 here c =
-    met-there c.args.text.now c.loop-rest.rest.now c.loop-rest.invariant.at c.loop-rest.invariant.rest-is _ c.loop-rest.invariant.reads c.loop-rest-test.true _ _ c.point_by-p.ensures
+    let v = c.loop-rest.invariant in
+    met-there c.args.text.now c.loop-rest.rest.now v.at v.rest-is _ v.reads c.loop-rest-test.true _ _ c.point_by-p.ensures
 
 -- what is counted behind it
 next : (c : After-places-total)
+    (here : Met utf8 c.args.text.now c.loop-rest.invariant.at c.point_by-p.result.size c.point_by-p.result.number)
     → Counted utf8 utf16 c.args.text.now (c.loop-rest.invariant.at + c.point_by-p.result.size) (c.loop-rest.total + c.places-total.result)
-unfolding classes table
-next c =
-    let here : Met utf8 c.args.text.now c.loop-rest.invariant.at c.point_by-p.result.size c.point_by-p.result.number = met-there c.args.text.now c.loop-rest.rest.now c.loop-rest.invariant.at c.loop-rest.invariant.rest-is _ c.loop-rest.invariant.reads c.loop-rest-test.true _ _ c.point_by-p.ensures in
+next c here =
     rw c.places-total.ensures
     (counted_next utf8 utf16 c.args.text.now c.loop-rest.invariant.at c.loop-rest.total _ _ c.loop-rest.invariant.counted here)
 
 pub overflow_add-total : goal.overflow_add-total
 overflow_add-total c =
-    omega (arith, counted-few c.args.text.now _ _ (next c), c.well_formed)
+    let h = here (goal.at.overflow_add-total c).After-point_by-p in
+    omega (arith, counted-few c.args.text.now _ _ (next c h), c.well_formed)
 
 -- the code point ends within the rest
 ends : (c : After-point_by-p) → c.point_by-p.result.size ≤ length c.loop-rest.rest.now
@@ -73,23 +74,30 @@ need-total-requires c =
 
 -- and what is counted behind that
 after : (c : After-need-total)
-    → Counted utf8 utf16 c.args.text.now (c.loop-rest.invariant.at + c.point_by-p.result.size + c.paced_run-run.result)
-    (c.loop-rest.total + c.places-total.result + c.need-total.result)
-unfolding classes table
-after c =
-    let here : Met utf8 c.args.text.now c.loop-rest.invariant.at c.point_by-p.result.size c.point_by-p.result.number = met-there c.args.text.now c.loop-rest.rest.now c.loop-rest.invariant.at c.loop-rest.invariant.rest-is _ c.loop-rest.invariant.reads c.loop-rest-test.true _ _ c.point_by-p.ensures in
-    let ran : Run (lent c.loop-rest.rest.now c.point_by-p.result.size) c.paced_run-run.result = run_paced (lent c.loop-rest.rest.now c.point_by-p.result.size) c.loop-rest.pace c.paced_run-run.result c.paced_run-run.ensures in
-    let next : Counted utf8 utf16 c.args.text.now (c.loop-rest.invariant.at + c.point_by-p.result.size) (c.loop-rest.total + c.places-total.result) = rw c.places-total.ensures
-    (counted_next utf8 utf16 c.args.text.now c.loop-rest.invariant.at c.loop-rest.total _ _ c.loop-rest.invariant.counted here) in
-    let text = c.args.text.now in
+    → let text = c.args.text.now in
     let size = c.point_by-p.result.size in
+    let run = c.paced_run-run.result in
+    let at = c.loop-rest.invariant.at + size in
+    let total = c.loop-rest.total + c.places-total.result in
+    (here : Met utf8 text c.loop-rest.invariant.at size c.point_by-p.result.number)
+    (ran : Run (lent c.loop-rest.rest.now size) run)
+    (next : Counted utf8 utf16 text at total)
+    → Counted utf8 utf16 text (at + run) (total + c.need-total.result)
+after c here ran next =
+    let text = c.args.text.now in
+    let rest = c.loop-rest.rest.now in
+    let size = c.point_by-p.result.size in
+    let run = c.paced_run-run.result in
     let v = c.loop-rest.invariant in
-    let b = passed-there text (lent c.loop-rest.rest.now size) (v.at + size) (lent-there text c.loop-rest.rest.now v.at v.rest-is size) here.inside c.paced_run-run.result ran in
-    counted-on text (v.at + size) c.paced_run-run.result _ b (c.loop-rest.total + c.places-total.result) c.need-total.result next c.need-total.ensures
+    let b = passed-there text (lent rest size) (v.at + size) (lent-there text rest v.at v.rest-is size) here.inside run ran in
+    counted-on text (v.at + size) run _ b (c.loop-rest.total + c.places-total.result) c.need-total.result next c.need-total.ensures
 
 pub overflow_add-total-in-loop-rest : goal.overflow_add-total-in-loop-rest
 overflow_add-total-in-loop-rest c =
-    omega (arith, counted-few c.args.text.now _ _ (after c), c.well_formed)
+    let h = here (goal.at.overflow_add-total-in-loop-rest c).After-point_by-p in
+    let r = ran (goal.at.overflow_add-total-in-loop-rest c).After-paced_run-run in
+    let n = next (goal.at.overflow_add-total-in-loop-rest c).After-places-total h in
+    omega (arith, counted-few c.args.text.now _ _ (after c h r n), c.well_formed)
 
 pub slice_bounds-rest-count : goal.slice_bounds-rest-count
 slice_bounds-rest-count c = (ran (goal.at.slice_bounds-rest-count c).After-paced_run-run).inside
@@ -104,22 +112,30 @@ pub loop-rest-smaller : goal.loop-rest-smaller
 loop-rest-smaller c =
     let rest = c.loop-rest.rest.now in
     let size = c.point_by-p.result.size in
-    omega (arith, (here (goal.at.loop-rest-smaller c).After-point_by-p).some, ends (goal.at.loop-rest-smaller c).After-point_by-p, lent-long rest size, lent-long (lent rest size) c.paced_run-run.result)
+    let h = here (goal.at.loop-rest-smaller c).After-point_by-p in
+    let e = ends (goal.at.loop-rest-smaller c).After-point_by-p in
+    omega (arith, h.some, e, lent-long rest size, lent-long (lent rest size) c.paced_run-run.result)
 
 pub loop-rest-preserved : goal.loop-rest-preserved
 loop-rest-preserved c =
     let v = c.loop-rest.invariant in
     let text = c.args.text.now in
+    let rest = c.loop-rest.rest.now in
     let size = c.point_by-p.result.size in
+    let behind = lent-there text rest v.at v.rest-is size in
+    let h = here (goal.at.loop-rest-preserved c).After-point_by-p in
+    let r = ran (goal.at.loop-rest-preserved c).After-paced_run-run in
+    let n = next (goal.at.loop-rest-preserved c).After-places-total h in
     record {
       reads = v.reads;
       at = v.at + size + c.paced_run-run.result;
-      rest-is = lent-there text (lent c.loop-rest.rest.now size) (v.at + size) (lent-there text c.loop-rest.rest.now v.at v.rest-is size) c.paced_run-run.result;
-      counted = after (goal.at.loop-rest-preserved c).After-need-total;
+      rest-is = lent-there text (lent rest size) (v.at + size) behind c.paced_run-run.result;
+      counted = after (goal.at.loop-rest-preserved c).After-need-total h r n;
     }
 
 pub returns : goal.returns
 returns c =
     let v = c.loop-rest.invariant in
     let text = c.args.text.now in
-    counted-end utf8 utf16 text v.at c.loop-rest.total v.counted (omega (arith, part_end text c.loop-rest.rest.now v.at v.rest-is, c.loop-rest-test.false))
+    counted-end utf8 utf16 text v.at c.loop-rest.total v.counted
+    (omega (arith, part_end text c.loop-rest.rest.now v.at v.rest-is, c.loop-rest-test.false))
