@@ -28,15 +28,16 @@ need-first-requires c =
     run_undamaged c.args.text.now c.whole_run-run.result (ran c)
 
 -- what is counted behind it
-next : (c : After-need-first)
+next : (c : After-need-first) (ran : Run c.args.text.now c.whole_run-run.result)
     → Counted utf8 utf16 c.args.text.now c.whole_run-run.result c.need-first.result
-next c =
-    let ran : Run c.args.text.now c.whole_run-run.result = run_at c.args.text.now c.whole_run-run.result c.whole_run-run.ensures in
+next c ran =
     first_counted c.args.text.now c.whole_run-run.result ran c.need-first.result c.need-first.ensures
 
 pub returns-then-run-text : goal.returns-then-run-text
 returns-then-run-text c =
-    counted-end utf8 utf16 c.args.text.now c.whole_run-run.result c.need-first.result (next (goal.at.returns-then-run-text c).After-need-first) (omega (arith, c.if-run-text.true))
+    let r = ran (goal.at.returns-then-run-text c).After-whole_run-run in
+    let n = next (goal.at.returns-then-run-text c).After-need-first r in
+    counted-end utf8 utf16 c.args.text.now _ _ n (omega (arith, c.if-run-text.true))
 
 pub slice_bounds-need_on-count : goal.slice_bounds-need_on-count
 slice_bounds-need_on-count c = (ran (goal.at.slice_bounds-need_on-count c).After-whole_run-run).inside
@@ -47,20 +48,26 @@ slice_bounds-need_on-start c = let i = (ran (goal.at.slice_bounds-need_on-start 
 -- and behind all of the text
 after : (c : After-need_on)
     → let text = c.args.text.now in
-    Counted utf8 utf16 text (c.whole_run-run.result + length (lent text c.whole_run-run.result)) (c.need-first.result + c.need_on.result)
-after c =
-    let ran : Run c.args.text.now c.whole_run-run.result = run_at c.args.text.now c.whole_run-run.result c.whole_run-run.ensures in
-    let next : Counted utf8 utf16 c.args.text.now c.whole_run-run.result c.need-first.result = first_counted c.args.text.now c.whole_run-run.result ran c.need-first.result c.need-first.ensures in
+    let run = c.whole_run-run.result in
+    let first = c.need-first.result in
+    (ran : Run text run) (next : Counted utf8 utf16 text run first)
+    → Counted utf8 utf16 text (run + length (lent text run)) (first + c.need_on.result)
+after c ran next =
     let text = c.args.text.now in
     let run = c.whole_run-run.result in
-    counted-on text run _ _ (passed-rest text (lent text run) run (part_is text run) ran.inside) c.need-first.result c.need_on.result next c.need_on.ensures
+    let p = passed-rest text (lent text run) run (part_is text run) ran.inside in
+    counted-on text run _ _ p c.need-first.result c.need_on.result next c.need_on.ensures
 
 pub overflow_add-result : goal.overflow_add-result
 overflow_add-result c =
-    omega (arith, counted-few c.args.text.now _ _ (after c), c.well_formed)
+    let r = ran (goal.at.overflow_add-result c).After-whole_run-run in
+    let n = next (goal.at.overflow_add-result c).After-need-first r in
+    omega (arith, counted-few c.args.text.now _ _ (after c r n), c.well_formed)
 
 pub returns : goal.returns
 returns c =
     let text = c.args.text.now in
     let run = c.whole_run-run.result in
-    counted-end utf8 utf16 text _ _ (after c) (part_end text (lent text run) run (part_is text run))
+    let r = ran (goal.at.returns c).After-whole_run-run in
+    let n = after (goal.at.returns c).After-need_on r (next (goal.at.returns c).After-need-first r) in
+    counted-end utf8 utf16 text _ _ n (part_end text (lent text run) run (part_is text run))
