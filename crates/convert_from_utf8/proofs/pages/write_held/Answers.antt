@@ -30,11 +30,9 @@ counted c = let a = c.args in c.need-places.ensures ∙ sym (places-points a.num
 -- and there is room for it
 counted-room : (c : Else-out-places)
     → let a = c.args in
-    length (converted utf8 (paged a.numbers.now) a.text.now) ≤ length a.out.now
-counted-room c =
-    let counted : let a = c.args in
-    c.need-places.result ≡ length (converted utf8 (paged a.numbers.now) a.text.now) = let a = c.args in c.need-places.ensures ∙ sym (places-points a.numbers.now a.text.now) in
-    omega (arith, counted, c.if-out-places.false)
+    (counted : c.need-places.result ≡ length (converted utf8 (paged a.numbers.now) a.text.now))
+    → length (converted utf8 (paged a.numbers.now) a.text.now) ≤ length a.out.now
+counted-room c counted = omega (arith, counted, c.if-out-places.false)
 
 pub put-requires : goal.put-requires
 put-requires c =
@@ -47,22 +45,26 @@ put-requires c =
 pub returns-then-text-out : goal.returns-then-text-out
 returns-then-text-out c =
     let a = c.args in
-    roomed-done (converted utf8 (paged a.numbers.now) a.text.now) a.out.now c.put.result c.put.ensures.count (roomy (goal.at.returns-then-text-out c).Then-text-out) _ c.put.ensures.output
+    let r = roomy (goal.at.returns-then-text-out c).Then-text-out in
+    roomed-done (converted utf8 (paged a.numbers.now) a.text.now) a.out.now _ c.put.ensures.count r _ c.put.ensures.output
 
 pub returns-then-out-places : goal.returns-then-out-places
 returns-then-out-places c =
     let a = c.args in
-    roomed-short (converted utf8 (paged a.numbers.now) a.text.now) a.out.now c.need-places.result (counted (goal.at.returns-then-out-places c).After-need-places) c.if-out-places.true
+    let n = counted (goal.at.returns-then-out-places c).After-need-places in
+    roomed-short (converted utf8 (paged a.numbers.now) a.text.now) a.out.now _ n c.if-out-places.true
 
 pub put-requires-2 : goal.put-requires-2
 put-requires-2 c =
+    let n = counted (goal.at.put-requires-2 c).After-need-places in
     record {
       page = c.requires.page;
       fits = c.requires.fits;
-      text_in_bounds = counted-room (goal.at.put-requires-2 c).Else-out-places;
+      text_in_bounds = counted-room (goal.at.put-requires-2 c).Else-out-places n;
     }
 
 pub returns : goal.returns
 returns c =
     let a = c.args in
-    roomed-done (converted utf8 (paged a.numbers.now) a.text.now) a.out.now _ c.put-2.ensures.count (counted-room (goal.at.returns c).Else-out-places) _ c.put-2.ensures.output
+    let r = counted-room (goal.at.returns c).Else-out-places (counted (goal.at.returns c).After-need-places) in
+    roomed-done (converted utf8 (paged a.numbers.now) a.text.now) a.out.now _ c.put-2.ensures.count r _ c.put-2.ensures.output
