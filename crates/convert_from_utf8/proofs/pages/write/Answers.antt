@@ -26,10 +26,9 @@ reached c = rw c.numbers-numbers.ensures at c.held-at.ensures
 -- it lacks nothing
 nothing : (c : Else-at-text)
     → let a = c.args in
-    lacking (table_of a.page) 0 (cut bytes a.text.now) ≡ []
-nothing c =
-    let reached : let a = c.args in
-    c.held-at.result ≡ held_up_to (table_of a.page) a.text.now = rw c.numbers-numbers.ensures at c.held-at.ensures in
+    (reached : c.held-at.result ≡ held_up_to (table_of a.page) a.text.now)
+    → lacking (table_of a.page) 0 (cut bytes a.text.now) ≡ []
+nothing c reached =
     let a = c.args in
     held_all (table_of a.page) a.text.now c.held-at.result reached c.if-at-text.false
 
@@ -52,11 +51,13 @@ returns-then-at-text c =
 
 pub write_held-requires : goal.write_held-requires
 write_held-requires c =
+    let r = reached (goal.at.write_held-requires c).After-held-at in
     rw c.numbers-numbers.ensures record {
       page = (is_page_lem c.args.page, page_keeps c.args.page);
-      fits = (c.requires, nothing (goal.at.write_held-requires c).Else-at-text);
+      fits = (c.requires, nothing (goal.at.write_held-requires c).Else-at-text r);
     }
 
 pub returns : goal.returns
 returns c =
-    rw (nothing (goal.at.returns c).Else-at-text) (rw c.numbers-numbers.ensures at c.write_held.ensures)
+    let r = reached (goal.at.returns c).After-held-at in
+    rw (nothing (goal.at.returns c).Else-at-text r) (rw c.numbers-numbers.ensures at c.write_held.ensures)
