@@ -23,23 +23,23 @@ loop-left-init c =
 size_is : (c : After-settled_by-size)
     → c.settled_by-size.result ≡ total size (first_settled reader (drop c.loop-left.at c.args.text.now))
 size_is c =
+    let left = drop c.loop-left.at c.args.text.now in
     (rw part_is at c.settled_by-size.ensures)
-    ∙ told-settled c.segment_by.result (drop c.loop-left.at c.args.text.now) (rw (part_is, c.requires.classes_value) at c.segment_by.ensures)
+    ∙ told-settled c.segment_by.result left (rw (part_is, c.requires.classes_value) at c.segment_by.ensures)
 
 pub shape_of-row-then-size-eq0 : goal.shape_of-row-then-size-eq0
 shape_of-row-then-size-eq0 c = c.loop-left.invariant.0.long
 
 pub returns-then-size-eq0 : goal.returns-then-size-eq0
 returns-then-size-eq0 c =
+    let s = size_is (goal.at.returns-then-size-eq0 c).After-settled_by-size in
     walked-stretched c.args.text.now c.args.from c.args.row.now c.loop-left.invariant.0
-    (λ e. subst (λ k. total size (first_settled reader (drop k c.args.text.now)) ≡ 0) e (sym (size_is (goal.at.returns-then-size-eq0 c).After-settled_by-size) ∙ c.if-size-eq0.true))
+    (λ e. subst (λ k. total size (first_settled reader (drop k c.args.text.now)) ≡ 0) e (sym s ∙ c.if-size-eq0.true))
 
 some : (c : Else-size-eq0)
+    (size_is : c.settled_by-size.result ≡ total size (first_settled reader (drop c.loop-left.at c.args.text.now)))
     → total size (first_settled reader (drop c.loop-left.at c.args.text.now)) ≡ 0 → ⊥
-some c n =
-    let size_is : c.settled_by-size.result ≡ total size (first_settled reader (drop c.loop-left.at c.args.text.now)) = (rw part_is at c.settled_by-size.ensures)
-    ∙ told-settled c.segment_by.result (drop c.loop-left.at c.args.text.now) (rw (part_is, c.requires.classes_value) at c.segment_by.ensures) in
-    c.if-size-eq0.false (size_is ∙ n)
+some c size_is n = c.if-size-eq0.false (size_is ∙ n)
 
 -- whether a line ends behind them
 ends : (c : After-end_first)
@@ -48,27 +48,37 @@ ends c = rw part_is at c.end_first.ensures
 
 pub advance-p-requires : goal.advance-p-requires
 advance-p-requires c =
-    rw (size_is (goal.at.advance-p-requires c).After-settled_by-size)
-    (walked-ahead c.args.text.now c.args.from c.args.row.now c.requires.stretches.walks c.loop-left.invariant.0 (some (goal.at.advance-p-requires c).Else-size-eq0) (ends (goal.at.advance-p-requires c).After-end_first))
+    let s = size_is (goal.at.advance-p-requires c).After-settled_by-size in
+    let n = some (goal.at.advance-p-requires c).Else-size-eq0 s in
+    let e = ends (goal.at.advance-p-requires c).After-end_first in
+    rw s (walked-ahead c.args.text.now c.args.from c.args.row.now c.requires.stretches.walks c.loop-left.invariant.0 n e)
 
 -- behind the segment
 turned : (c : After-advance-p)
+    (size_is : c.settled_by-size.result ≡ total size (first_settled reader (drop c.loop-left.at c.args.text.now)))
+    (some : total size (first_settled reader (drop c.loop-left.at c.args.text.now)) ≡ 0 → ⊥)
+    (ends : c.end_first.result ≡ end_first (drop c.loop-left.at c.args.text.now))
     → Walked c.args.text.now c.args.from c.args.row.now
     c.advance-p.new.row c.advance-p.result (c.loop-left.at + c.settled_by-size.result)
-turned c =
-    let size_is : c.settled_by-size.result ≡ total size (first_settled reader (drop c.loop-left.at c.args.text.now)) = (rw part_is at c.settled_by-size.ensures)
-    ∙ told-settled c.segment_by.result (drop c.loop-left.at c.args.text.now) (rw (part_is, c.requires.classes_value) at c.segment_by.ensures) in
-    let some : total size (first_settled reader (drop c.loop-left.at c.args.text.now)) ≡ 0 → ⊥ = λ n. c.if-size-eq0.false (size_is ∙ n) in
-    let ends : c.end_first.result ≡ end_first (drop c.loop-left.at c.args.text.now) = rw part_is at c.end_first.ensures in
+turned c size_is some ends =
     rw size_is
     (walked_next c.args.text.now c.args.from c.args.row.now c.requires.stretches.walks c.loop-left.invariant.0 some ends
     (rw size_is at c.advance-p.ensures))
 
 pub overflow_add-at : goal.overflow_add-at
-overflow_add-at c = let t = turned (goal.at.overflow_add-at c).After-advance-p in omega (arith, t.inside)
+overflow_add-at c =
+    let s = size_is (goal.at.overflow_add-at c).After-settled_by-size in
+    let n = some (goal.at.overflow_add-at c).Else-size-eq0 s in
+    let e = ends (goal.at.overflow_add-at c).After-end_first in
+    let t = turned (goal.at.overflow_add-at c).After-advance-p s n e in
+    omega (arith, t.inside)
 
 pub loop-left-preserved : goal.loop-left-preserved
-loop-left-preserved c = (turned (goal.at.loop-left-preserved c).After-advance-p, λ e. absurd (c.if-size-eq0.false (omega arith)))
+loop-left-preserved c =
+    let s = size_is (goal.at.loop-left-preserved c).After-settled_by-size in
+    let n = some (goal.at.loop-left-preserved c).Else-size-eq0 s in
+    let e = ends (goal.at.loop-left-preserved c).After-end_first in
+    (turned (goal.at.loop-left-preserved c).After-advance-p s n e, λ r. absurd (c.if-size-eq0.false (omega arith)))
 
 pub shape_of-row : goal.shape_of-row
 shape_of-row c = c.loop-left.invariant.0.long
