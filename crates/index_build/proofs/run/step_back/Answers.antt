@@ -41,20 +41,27 @@ overflow_sub-result c = (found (goal.at.overflow_sub-result c).After-boundary-b)
 counted : (c : Else-b-n)
     → let a = c.args in
     let b = c.boundary-b.result in
-    (a.n - b ≤ a.q.bytes) × (1 + four_of (get_or a.text.now b 0) ≤ a.q.units) × (1 ≤ a.q.points) × (end_first (drop b a.text.now) ≤ a.q.lines)
-counted c =
-    let found : let a = c.args in Bound a.text.now a.n c.boundary-b.result = rw c.boundary-b.ensures (boundary-bound c.args.text.now (c.requires.first (omega (arith, c.if-run-n.false))) c.args.n) in
+    (found : Bound a.text.now a.n b)
+    → (a.n - b ≤ a.q.bytes) × (1 + four_of (get_or a.text.now b 0) ≤ a.q.units)
+    × (1 ≤ a.q.points) × (end_first (drop b a.text.now) ≤ a.q.lines)
+counted c found =
     covered c.args.text.now c.args.run c.args.n c.boundary-b.result c.requires.there c.if-run-n.false found
     (omega (arith, found.order, c.if-b-n.false)) c.args.q c.requires
 
 pub overflow_sub-result-2 : goal.overflow_sub-result-2
-overflow_sub-result-2 c = (counted (goal.at.overflow_sub-result-2 c).Else-b-n).0
+overflow_sub-result-2 c =
+    let f = found (goal.at.overflow_sub-result-2 c).After-boundary-b in
+    (counted (goal.at.overflow_sub-result-2 c).Else-b-n f).0
 
 pub overflow_sub-result-3 : goal.overflow_sub-result-3
-overflow_sub-result-3 c = rw c.units_from.ensures (counted (goal.at.overflow_sub-result-3 c).Else-b-n).1
+overflow_sub-result-3 c =
+    let f = found (goal.at.overflow_sub-result-3 c).After-boundary-b in
+    rw c.units_from.ensures (counted (goal.at.overflow_sub-result-3 c).Else-b-n f).1
 
 pub overflow_sub-result-4 : goal.overflow_sub-result-4
-overflow_sub-result-4 c = (counted (goal.at.overflow_sub-result-4 c).Else-b-n).2
+overflow_sub-result-4 c =
+    let f = found (goal.at.overflow_sub-result-4 c).After-boundary-b in
+    (counted (goal.at.overflow_sub-result-4 c).Else-b-n f).2
 
 -- it lies in the text
 inside : (c : After-boundary-b) → c.boundary-b.result ≤ length c.args.text.now
@@ -73,7 +80,8 @@ ends c = rw part_is at c.end_first.ensures
 
 pub overflow_sub-result-5 : goal.overflow_sub-result-5
 overflow_sub-result-5 c =
-    rw (ends (goal.at.overflow_sub-result-5 c).After-end_first) (counted (goal.at.overflow_sub-result-5 c).Else-b-n).3
+    let f = found (goal.at.overflow_sub-result-5 c).After-boundary-b in
+    rw (ends (goal.at.overflow_sub-result-5 c).After-end_first) (counted (goal.at.overflow_sub-result-5 c).Else-b-n f).3
 
 pub returns : goal.returns
 returns c =
