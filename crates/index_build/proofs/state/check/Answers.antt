@@ -2,7 +2,6 @@
 use Prim.Native.Nat.{◌+◌, ◌≤◌}
 use mathlib.Core.Path.{◌≡◌, sym, ◌∙◌}
 use mathlib.Core.Bool.{true}
-use borrow.Author.Tests.{not-false}
 use native.Mathlib.Omega.{arith}
 use Rattle.terms.specs.Limits.{limit}
 use Rattle.index_build.specs.State.{sound}
@@ -27,22 +26,27 @@ overflow_sub-state c =
 pub returns-then-state-more : goal.returns-then-state-more
 returns-then-state-more c =
     let a = c.args in
-    let s = sound_is a.state (passed (goal.at.returns-then-state-more c).Else-not-is_sound) in
-    says-over a.state a.more a.room (passed (goal.at.returns-then-state-more c).Else-not-is_sound) (omega (arith, c.if-state-more.true, s.within))
+    let p = passed (goal.at.returns-then-state-more c).Else-not-is_sound in
+    let s = sound_is a.state p in
+    says-over a.state a.more a.room p (omega (arith, c.if-state-more.true, s.within))
 
 -- nor does the text go over the limit
-within : (c : Else-state-more) → let a = c.args in a.state.taken + a.more ≤ limit
-within c =
-    let passed : sound c.args.state ≡ true = sym c.is_sound.ensures ∙ not-false _ c.if-not-is_sound.false-raw in
+within : (c : Else-state-more) (passed : sound c.args.state ≡ true)
+    → let a = c.args in a.state.taken + a.more ≤ limit
+within c passed =
     let s = sound_is c.args.state passed in
     omega (arith, c.if-state-more.false, s.within)
 
 pub returns-then-room-needed : goal.returns-then-room-needed
 returns-then-room-needed c =
     let a = c.args in
-    says-short a.state a.more a.room (passed (goal.at.returns-then-room-needed c).Else-not-is_sound) (within (goal.at.returns-then-room-needed c).Else-state-more) c.needed-needed.result c.needed-needed.ensures c.if-room-needed.true
+    let p = passed (goal.at.returns-then-room-needed c).Else-not-is_sound in
+    let w = within (goal.at.returns-then-room-needed c).Else-state-more p in
+    says-short a.state a.more a.room p w c.needed-needed.result c.needed-needed.ensures c.if-room-needed.true
 
 pub returns : goal.returns
 returns c =
     let a = c.args in
-    says-done a.state a.more a.room (passed (goal.at.returns c).Else-not-is_sound) (within (goal.at.returns c).Else-state-more) (rw (← c.needed-needed.ensures) c.if-room-needed.false)
+    let p = passed (goal.at.returns c).Else-not-is_sound in
+    let w = within (goal.at.returns c).Else-state-more p in
+    says-done a.state a.more a.room p w (rw (← c.needed-needed.ensures) c.if-room-needed.false)
