@@ -23,22 +23,24 @@ put_sequence-done-requires c =
     let m = here (goal.at.put_sequence-done-requires c).After-point-p in
     record {
       c_value = m.scalar;
-      c_in_bounds = wrote-room utf16 utf8 c.args.text.now c.args.out.now c.loop-at.out c.loop-at.at c.loop-at.done c.loop-at.invariant c.requires.2 _ _ m;
+      c_in_bounds = wrote-room utf16 utf8 c.args.text.now c.args.out.now _ _ _ c.loop-at.invariant c.requires.2 _ _ m;
     }
 
 -- and what is written then
 after : (c : After-put_sequence-done)
+    (here : Met utf16 c.args.text.now c.loop-at.at c.point-p.result.size c.point-p.result.number)
     → let a = c.args in
-    Wrote utf16 utf8 a.text.now a.out.now (back c.loop-at.out c.loop-at.done c.put_sequence-done.new.out) (c.loop-at.at + c.point-p.result.size) (c.loop-at.done + c.put_sequence-done.result)
-after c =
-    let here : Met utf16 c.args.text.now c.loop-at.at c.point-p.result.size c.point-p.result.number = met utf16-faithful c.args.text.now c.loop-at.at (omega (arith, c.loop-at-test.true, c.requires.1)) _ _ c.point-p.ensures in
+    Wrote utf16 utf8 a.text.now a.out.now (back c.loop-at.out c.loop-at.done c.put_sequence-done.new.out)
+    (c.loop-at.at + c.point-p.result.size) (c.loop-at.done + c.put_sequence-done.result)
+after c here =
     rw c.put_sequence-done.ensures.count
-    (wrote-next utf16 utf8 c.args.text.now c.args.out.now c.loop-at.out c.loop-at.at c.loop-at.done c.loop-at.invariant c.requires.2 _ _ here
-    c.put_sequence-done.new.out c.put_sequence-done.ensures.output)
+    (wrote-next utf16 utf8 c.args.text.now c.args.out.now c.loop-at.out c.loop-at.at c.loop-at.done c.loop-at.invariant
+    c.requires.2 _ _ here c.put_sequence-done.new.out c.put_sequence-done.ensures.output)
 
 pub overflow_add-done : goal.overflow_add-done
 overflow_add-done c =
-    let w = after (goal.at.overflow_add-done c).After-put_sequence-done in
+    let h = here (goal.at.overflow_add-done c).After-point-p in
+    let w = after (goal.at.overflow_add-done c).After-put_sequence-done h in
     omega (arith, w.within, c.well_formed)
 
 pub overflow_add-at : goal.overflow_add-at
@@ -48,11 +50,13 @@ pub loop-at-smaller : goal.loop-at-smaller
 loop-at-smaller c = let m = here (goal.at.loop-at-smaller c).After-point-p in omega (arith, m.some, m.inside)
 
 pub loop-at-preserved : goal.loop-at-preserved
-loop-at-preserved c = after (goal.at.loop-at-preserved c).After-put_sequence-done
+loop-at-preserved c =
+    after (goal.at.loop-at-preserved c).After-put_sequence-done (here (goal.at.loop-at-preserved c).After-point-p)
 
 pub shape_of-out : goal.shape_of-out
 shape_of-out c = c.loop-at.invariant.long
 
 pub returns : goal.returns
 returns c =
-    wrote-passes utf16 utf8 c.args.text.now c.args.out.now c.loop-at.out c.loop-at.at c.loop-at.done c.loop-at.invariant (omega (arith, c.loop-at-test.false, c.requires.0))
+    wrote-passes utf16 utf8 c.args.text.now c.args.out.now c.loop-at.out c.loop-at.at c.loop-at.done c.loop-at.invariant
+    (omega (arith, c.loop-at-test.false, c.requires.0))
