@@ -29,15 +29,16 @@ here c =
 
 -- and what is counted then
 after : (c : After-bytes_of-places)
+    (here : Met utf16 c.args.text.now c.loop-at.at c.point-p.result.size c.point-p.result.number)
     → Passed utf16 utf8 c.args.text.now (c.loop-at.at + c.point-p.result.size) (c.loop-at.places + c.bytes_of-places.result)
-after c =
-    let here : Met utf16 c.args.text.now c.loop-at.at c.point-p.result.size c.point-p.result.number = met utf16-faithful c.args.text.now c.loop-at.at (omega (arith, c.loop-at-test.true, c.requires)) _ _ c.point-p.ensures in
+after c here =
     rw c.bytes_of-places.ensures (passed-next utf16 utf8 c.args.text.now c.loop-at.at c.loop-at.places c.loop-at.invariant _ _ here)
 
 pub overflow_add-places : goal.overflow_add-places
 overflow_add-places c =
     let t = c.args.text.now in
-    omega (arith, passed-few utf16 utf8 t _ _ (after c), text_few Units Bytes t, c.requires)
+    let h = here (goal.at.overflow_add-places c).After-point-p in
+    omega (arith, passed-few utf16 utf8 t _ _ (after c h), text_few Units Bytes t, c.requires)
 
 pub overflow_add-at : goal.overflow_add-at
 overflow_add-at c = let m = here (goal.at.overflow_add-at c).After-point-p in omega (arith, m.inside)
@@ -46,8 +47,10 @@ pub loop-at-smaller : goal.loop-at-smaller
 loop-at-smaller c = let m = here (goal.at.loop-at-smaller c).After-point-p in omega (arith, m.some, m.inside)
 
 pub loop-at-preserved : goal.loop-at-preserved
-loop-at-preserved c = after (goal.at.loop-at-preserved c).After-bytes_of-places
+loop-at-preserved c =
+    after (goal.at.loop-at-preserved c).After-bytes_of-places (here (goal.at.loop-at-preserved c).After-point-p)
 
 pub returns : goal.returns
 returns c =
-    passed-passes utf16 utf8 c.args.text.now c.loop-at.at c.loop-at.places c.loop-at.invariant (omega (arith, c.loop-at-test.false, c.requires))
+    passed-passes utf16 utf8 c.args.text.now c.loop-at.at c.loop-at.places c.loop-at.invariant
+    (omega (arith, c.loop-at-test.false, c.requires))
