@@ -20,16 +20,18 @@ here c =
 
 -- and what is written then
 after : (c : After-put_bytes-done)
+    (here : Met code_points c.args.text.now c.loop-at.at c.point-p.result.size c.point-p.result.number)
     → let a = c.args in
-    Wrote code_points utf8 a.text.now a.out.now (back c.loop-at.out c.loop-at.done c.put_bytes-done.new.out) (c.loop-at.at + c.point-p.result.size) (c.loop-at.done + c.put_bytes-done.result)
-after c =
-    let here : Met code_points c.args.text.now c.loop-at.at c.point-p.result.size c.point-p.result.number = met points-faithful c.args.text.now c.loop-at.at c.loop-at-test.true _ _ c.point-p.ensures in
-    wrote-put code_points utf8 c.args.text.now c.args.out.now c.loop-at.out c.loop-at.at c.loop-at.done c.loop-at.invariant c.requires _ _ here
-    c.put_bytes-done.new.out c.put_bytes-done.result c.put_bytes-done.ensures
+    Wrote code_points utf8 a.text.now a.out.now (back c.loop-at.out c.loop-at.done c.put_bytes-done.new.out)
+    (c.loop-at.at + c.point-p.result.size) (c.loop-at.done + c.put_bytes-done.result)
+after c here =
+    wrote-put code_points utf8 c.args.text.now c.args.out.now c.loop-at.out c.loop-at.at c.loop-at.done c.loop-at.invariant
+    c.requires _ _ here c.put_bytes-done.new.out c.put_bytes-done.result c.put_bytes-done.ensures
 
 pub overflow_add-done : goal.overflow_add-done
 overflow_add-done c =
-    let w = after (goal.at.overflow_add-done c).After-put_bytes-done in
+    let h = here (goal.at.overflow_add-done c).After-point-p in
+    let w = after (goal.at.overflow_add-done c).After-put_bytes-done h in
     omega (arith, w.within, c.well_formed)
 
 pub overflow_add-at : goal.overflow_add-at
@@ -39,7 +41,8 @@ pub loop-at-smaller : goal.loop-at-smaller
 loop-at-smaller c = let m = here (goal.at.loop-at-smaller c).After-point-p in omega (arith, m.some, m.inside)
 
 pub loop-at-preserved : goal.loop-at-preserved
-loop-at-preserved c = after (goal.at.loop-at-preserved c).After-put_bytes-done
+loop-at-preserved c =
+    after (goal.at.loop-at-preserved c).After-put_bytes-done (here (goal.at.loop-at-preserved c).After-point-p)
 
 pub shape_of-out : goal.shape_of-out
 shape_of-out c = c.loop-at.invariant.long
@@ -47,5 +50,6 @@ shape_of-out c = c.loop-at.invariant.long
 pub returns : goal.returns
 returns c =
     let a = c.args in
-    let e = wrote-end code_points utf8 a.text.now a.out.now c.loop-at.out c.loop-at.at c.loop-at.done c.loop-at.invariant c.loop-at-test.false in
+    let e = wrote-end code_points utf8 a.text.now a.out.now c.loop-at.out c.loop-at.at c.loop-at.done
+    c.loop-at.invariant c.loop-at-test.false in
     record { count = e.0; output = e.1 }
