@@ -15,7 +15,8 @@ here : (c : After-next-at)
     → let a = c.args in
     Walked a.entry.now a.needle.now c.next-at.result c.loop-place.seen
 here c =
-    walked-over _ _ _ _ c.loop-place.invariant.0 (omega (arith, c.loop-place.invariant.1.first)) c.next-at.result c.next-at.ensures.0 c.next-at.ensures.1
+    let v = c.loop-place.invariant in
+    walked-over _ _ _ _ v.0 (omega (arith, v.1.first)) c.next-at.result c.next-at.ensures.0 c.next-at.ensures.1
 
 pub overflow_sub-n-in-loop-place : goal.overflow_sub-n-in-loop-place
 overflow_sub-n-in-loop-place c = (here c).inside
@@ -26,11 +27,9 @@ returns-then-n-at c = walked_end _ _ _ _ (here (goal.at.returns-then-n-at c).Aft
 -- there is room for the needle there
 room : (c : Else-n-at)
     → let a = c.args in
-    c.next-at.result + length a.needle.now ≤ length a.entry.now
-room c =
-    let here : let a = c.args in
-    Walked a.entry.now a.needle.now c.next-at.result c.loop-place.seen = walked-over _ _ _ _ c.loop-place.invariant.0 (omega (arith, c.loop-place.invariant.1.first)) c.next-at.result c.next-at.ensures.0 c.next-at.ensures.1 in
-    omega (arith, c.if-n-at.false, (here).inside)
+    (here : Walked a.entry.now a.needle.now c.next-at.result c.loop-place.seen)
+    → c.next-at.result + length a.needle.now ≤ length a.entry.now
+room c here = omega (arith, c.if-n-at.false, here.inside)
 
 -- where the comparison starts: all between the cut and there is known
 starts : (c : After-later)
@@ -39,7 +38,9 @@ starts : (c : After-later)
 starts c = (omega (arith, c.later.ensures), λ j u v. omega (arith, c.later.ensures))
 
 pub agree-i-requires : goal.agree-i-requires
-agree-i-requires c = let r = room (goal.at.agree-i-requires c).Else-n-at in search rules
+agree-i-requires c =
+    let r = room (goal.at.agree-i-requires c).Else-n-at (here (goal.at.agree-i-requires c).After-next-at) in
+    search rules
 
 pub overflow_sub-at : goal.overflow_sub-at
 overflow_sub-at c = c.next-at.ensures.0.onward
@@ -48,55 +49,71 @@ pub overflow_sub-place : goal.overflow_sub-place
 overflow_sub-place c = omega (arith, (starts (goal.at.overflow_sub-place c).After-later).0, c.agree-i.ensures.low)
 
 pub overflow_add-place : goal.overflow_add-place
-overflow_add-place c = let r = room (goal.at.overflow_add-place c).Else-n-at in search rules
+overflow_add-place c =
+    let r = room (goal.at.overflow_add-place c).Else-n-at (here (goal.at.overflow_add-place c).After-next-at) in
+    search rules
 
 pub overflow_add-place-then-i-m : goal.overflow_add-place-then-i-m
-overflow_add-place-then-i-m c = let r = room (goal.at.overflow_add-place-then-i-m c).Else-n-at in search rules
+overflow_add-place-then-i-m c =
+    let r = room (goal.at.overflow_add-place-then-i-m c).Else-n-at (here (goal.at.overflow_add-place-then-i-m c).After-next-at) in
+    search rules
 
 pub loop-place-smaller-then-i-m : goal.loop-place-smaller-then-i-m
 loop-place-smaller-then-i-m c =
-    omega (arith, room (goal.at.loop-place-smaller-then-i-m c).Else-n-at, c.next-at.ensures.0.onward)
+    let r = room (goal.at.loop-place-smaller-then-i-m c).Else-n-at (here (goal.at.loop-place-smaller-then-i-m c).After-next-at) in
+    omega (arith, r, c.next-at.ensures.0.onward)
 
 pub loop-place-preserved-then-i-m : goal.loop-place-preserved-then-i-m
 loop-place-preserved-then-i-m c =
     let a = c.args in
+    let h = here (goal.at.loop-place-preserved-then-i-m c).After-next-at in
+    let r = room (goal.at.loop-place-preserved-then-i-m c).Else-n-at h in
+    let s = starts (goal.at.loop-place-preserved-then-i-m c).After-later in
     let i = c.loop-place.invariant.1 in
     let n = c.behind_look-ahead.ensures _ i.first i.second c.if-i-m.true in (
-      walked-right a.entry.now a.needle.now c.next-at.result c.loop-place.seen (here (goal.at.loop-place-preserved-then-i-m c).After-next-at) a.plan.cut a.plan.shift a.plan.keep c.requires.cut (room (goal.at.loop-place-preserved-then-i-m c).Else-n-at)
-          c.later.result c.agree-i.result c.agree-i.ensures (starts (goal.at.loop-place-preserved-then-i-m c).After-later).1 (omega (arith, (starts (goal.at.loop-place-preserved-then-i-m c).After-later).0, c.agree-i.ensures.low)) c.if-i-m.true,
+      walked-right a.entry.now a.needle.now _ _ h a.plan.cut a.plan.shift a.plan.keep c.requires.cut r
+          c.later.result c.agree-i.result c.agree-i.ensures s.1 (omega (arith, s.0, c.agree-i.ensures.low)) c.if-i-m.true,
       record { first = n.0; second = n.1 },
     )
 
 pub agree-j-requires : goal.agree-j-requires
 agree-j-requires c =
-    let r = room (goal.at.agree-j-requires c).Else-n-at in
+    let r = room (goal.at.agree-j-requires c).Else-n-at (here (goal.at.agree-j-requires c).After-next-at) in
     let k = c.requires.cut.inside in
     search rules
 
 pub returns-then-cut-j : goal.returns-then-cut-j
 returns-then-cut-j c =
     let a = c.args in
-    walked_all a.entry.now a.needle.now c.next-at.result c.loop-place.seen (here (goal.at.returns-then-cut-j c).After-next-at) a.plan.cut a.plan.shift a.plan.keep c.requires.cut (room (goal.at.returns-then-cut-j c).Else-n-at)
-    c.later.result c.agree-i.result c.agree-i.ensures (starts (goal.at.returns-then-cut-j c).After-later).1 c.if-i-m.false c.agree-j.result c.agree-j.ensures c.if-cut-j.true
+    let h = here (goal.at.returns-then-cut-j c).After-next-at in
+    let r = room (goal.at.returns-then-cut-j c).Else-n-at h in
+    let s = starts (goal.at.returns-then-cut-j c).After-later in
+    walked_all a.entry.now a.needle.now _ _ h a.plan.cut a.plan.shift a.plan.keep c.requires.cut r
+    c.later.result c.agree-i.result c.agree-i.ensures s.1 c.if-i-m.false c.agree-j.result c.agree-j.ensures c.if-cut-j.true
 
 pub overflow_sub-at-in-loop-place : goal.overflow_sub-at-in-loop-place
 overflow_sub-at-in-loop-place c = c.next-at.ensures.0.onward
 
 pub overflow_add-place-in-loop-place : goal.overflow_add-place-in-loop-place
 overflow_add-place-in-loop-place c =
-    omega (arith, room (goal.at.overflow_add-place-in-loop-place c).Else-n-at, c.requires.cut.short)
+    let r = room (goal.at.overflow_add-place-in-loop-place c).Else-n-at (here (goal.at.overflow_add-place-in-loop-place c).After-next-at) in
+    omega (arith, r, c.requires.cut.short)
 
 pub loop-place-smaller : goal.loop-place-smaller
 loop-place-smaller c =
-    omega (arith, room (goal.at.loop-place-smaller c).Else-n-at, c.next-at.ensures.0.onward, c.requires.cut.some, c.requires.cut.short)
+    let r = room (goal.at.loop-place-smaller c).Else-n-at (here (goal.at.loop-place-smaller c).After-next-at) in
+    omega (arith, r, c.next-at.ensures.0.onward, c.requires.cut.some, c.requires.cut.short)
 
 pub loop-place-preserved : goal.loop-place-preserved
 loop-place-preserved c =
     let a = c.args in
+    let h = here (goal.at.loop-place-preserved c).After-next-at in
+    let r = room (goal.at.loop-place-preserved c).Else-n-at h in
+    let s = starts (goal.at.loop-place-preserved c).After-later in
     let i = c.loop-place.invariant.1 in
     let n = c.behind_look-ahead-in-loop-place.ensures _ i.first i.second (omega (arith, c.if-cut-j.false, c.requires.cut.inside)) in (
-      walked-left a.entry.now a.needle.now c.next-at.result c.loop-place.seen (here (goal.at.loop-place-preserved c).After-next-at) a.plan.cut a.plan.shift a.plan.keep c.requires.cut (room (goal.at.loop-place-preserved c).Else-n-at)
-          c.later.result c.agree-i.result c.agree-i.ensures (starts (goal.at.loop-place-preserved c).After-later).1 c.if-i-m.false c.agree-j.result c.agree-j.ensures c.if-cut-j.false,
+      walked-left a.entry.now a.needle.now _ _ h a.plan.cut a.plan.shift a.plan.keep c.requires.cut r
+          c.later.result c.agree-i.result c.agree-i.ensures s.1 c.if-i-m.false c.agree-j.result c.agree-j.ensures c.if-cut-j.false,
       record { first = n.0; second = n.1 },
     )
 
