@@ -19,23 +19,25 @@ returns-then-n-at c = walked_end _ _ _ _ (here (goal.at.returns-then-n-at c).Aft
 
 -- there is room for the needle there
 room : (c : Else-n-at) → let a = c.args in
-    c.onward-at.result + length a.needle.now ≤ length a.entry.now
-room c =
-    let here : let a = c.args in
-    Walked a.entry.now a.needle.now c.onward-at.result 0 = walked_from _ _ c.requires _ c.onward-at.ensures in
-    omega (arith, c.if-n-at.false, (here).inside)
+    (here : Walked a.entry.now a.needle.now c.onward-at.result 0)
+    → c.onward-at.result + length a.needle.now ≤ length a.entry.now
+room c here = omega (arith, c.if-n-at.false, here.inside)
 
 pub returns-then-m-agree : goal.returns-then-m-agree
 returns-then-m-agree c =
-    walked-found _ _ _ _ (here (goal.at.returns-then-m-agree c).After-onward-at) (room (goal.at.returns-then-m-agree c).Else-n-at) (λ i h. c.agree.ensures.same i (omega arith) (omega (arith, c.if-m-agree.true)))
+    let h = here (goal.at.returns-then-m-agree c).After-onward-at in
+    let r = room (goal.at.returns-then-m-agree c).Else-n-at h in
+    walked-found _ _ _ _ h r (λ i h. c.agree.ensures.same i (omega arith) (omega (arith, c.if-m-agree.true)))
 
 pub walk-requires : goal.walk-requires
 walk-requires c =
+    let h = here (goal.at.walk-requires c).After-onward-at in
+    let r = room (goal.at.walk-requires c).Else-n-at h in
     record {
       cut = c.cut_of.ensures;
       rare = (
         c.rarest_two-rare.ensures,
-        walked-passed _ _ _ _ (omega (arith, room (goal.at.walk-requires c).Else-n-at))
-            (walked_one _ _ _ _ (here (goal.at.walk-requires c).After-onward-at) (room (goal.at.walk-requires c).Else-n-at) c.agree.result c.if-m-agree.false (c.agree.ensures.other c.if-m-agree.false) c.requires),
+        walked-passed _ _ _ _ (omega (arith, r))
+            (walked_one _ _ _ _ h r c.agree.result c.if-m-agree.false (c.agree.ensures.other c.if-m-agree.false) c.requires),
       );
     }
