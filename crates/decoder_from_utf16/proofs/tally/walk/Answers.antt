@@ -11,17 +11,13 @@ use Rattle.decoder_shared.proofs.TalliedWalk.{Walked, walked_start}
 use Rattle.decoder_from_utf16.specs.Inside.Tallying.{log_of}
 use Rattle.decoder_from_utf16.proofs.TallyOfUnits.{run_room, run-next, Next, next-whole, next-damage, end-nothing, end-begun}
 use borrow.Author.Rules.{rules}
-use Rattle.decoder_from_utf16.proofs.tally.walk.Goals.{After-alone_run-run, After-pass-tally, After-strike-arg-1, In-Whole, Start}
+use Rattle.decoder_from_utf16.proofs.tally.walk.Goals.{After-alone_run-run, After-pass-tally, After-strike-arg-1, In-Whole}
 use Rattle.decoder_from_utf16.proofs.tally.walk.Goals as goal
-
--- the tally at the start
-abbrev begun : (c : Start)
-    → Log
-begun c = log_of c.args.tally c.args.list.now
 
 pub loop-n-init : goal.loop-n-init
 loop-n-init c =
-    (refl, walked_start units_division c.args.room c.args.text.now (begun (goal.at.loop-n-init c).Start) c.requires refl)
+    let a = c.args in
+    (refl, walked_start units_division a.room a.text.now (log_of a.tally a.list.now) c.requires refl)
 
 pub offset_bounds-text-at : goal.offset_bounds-text-at
 offset_bounds-text-at c = let i = c.loop-n.invariant.1.inside in search rules
@@ -37,19 +33,20 @@ found : (c : After-alone_run-run)
     → (c.loop-n.at + c.alone_run-run.result ≤ length c.args.text.now)
     × (c.loop-n.tally.whole + c.alone_run-run.result ≤ limit)
 found c =
-    let begun : Log = log_of c.args.tally c.args.list.now in
-    run_room c.args.room c.args.text.now begun c.loop-n.invariant.1 c.alone_run-run.result c.alone_run-run.ensures.0
+    let a = c.args in
+    run_room a.room a.text.now (log_of a.tally a.list.now) c.loop-n.invariant.1 c.alone_run-run.result c.alone_run-run.ensures.0
 
 pub pass-tally-requires : goal.pass-tally-requires
 pass-tally-requires c = (found c).1
 
 -- behind the run
-ran : (c : After-pass-tally)
-    → let begun : Log = log_of c.args.tally c.args.list.now in
-    Walked units_division c.args.room c.args.text.now begun (c.loop-n.at + c.alone_run-run.result) (log_of c.pass-tally.result c.loop-n.list)
+ran : (c : After-pass-tally) → let a = c.args in
+    Walked units_division a.room a.text.now (log_of a.tally a.list.now) (c.loop-n.at + c.alone_run-run.result)
+    (log_of c.pass-tally.result c.loop-n.list)
 ran c =
-    let begun : Log = log_of c.args.tally c.args.list.now in
-    run-next c.args.room c.args.text.now begun c.loop-n.invariant.1 c.alone_run-run.result c.alone_run-run.ensures.0 c.alone_run-run.ensures.1 _
+    let a = c.args in
+    let run = c.alone_run-run in
+    run-next a.room a.text.now (log_of a.tally a.list.now) c.loop-n.invariant.1 run.result run.ensures.0 run.ensures.1 _
     (c.pass-tally.ensures c.loop-n.list)
 
 pub overflow_add-at : goal.overflow_add-at
@@ -72,60 +69,71 @@ shape_of-list-in-Nothing c = c.loop-n.invariant.0
 
 pub returns-in-Nothing : goal.returns-in-Nothing
 returns-in-Nothing c =
-    end-nothing c.args.room c.args.text.now (begun (goal.at.returns-in-Nothing c).Start) (ran (goal.at.returns-in-Nothing c).After-pass-tally) c.segment.result c.segment.ensures c.in-Nothing.is
+    let a = c.args in
+    end-nothing a.room a.text.now (log_of a.tally a.list.now) (ran (goal.at.returns-in-Nothing c).After-pass-tally)
+    c.segment.result c.segment.ensures c.in-Nothing.is
 
 -- a whole segment stands there
-whole : (c : In-Whole)
-    → let begun : Log = log_of c.args.tally c.args.list.now in let ran : Walked units_division c.args.room c.args.text.now begun (c.loop-n.at + c.alone_run-run.result) (log_of c.pass-tally.result c.loop-n.list) = run-next c.args.room c.args.text.now begun c.loop-n.invariant.1 c.alone_run-run.result c.alone_run-run.ensures.0 c.alone_run-run.ensures.1 _ (c.pass-tally.ensures c.loop-n.list) in
-    let n = c.in-Whole.n in
-    Next c.args.room c.args.text.now begun ran n (passed n (log_of c.pass-tally.result c.loop-n.list))
-whole c =
-    let begun : Log = log_of c.args.tally c.args.list.now in
-    let ran : Walked units_division c.args.room c.args.text.now begun (c.loop-n.at + c.alone_run-run.result) (log_of c.pass-tally.result c.loop-n.list) = run-next c.args.room c.args.text.now begun c.loop-n.invariant.1 c.alone_run-run.result c.alone_run-run.ensures.0 c.alone_run-run.ensures.1 _
-    (c.pass-tally.ensures c.loop-n.list) in
-    next-whole c.args.room c.args.text.now begun ran c.segment.result c.segment.ensures _ c.in-Whole.is
+whole : (c : In-Whole) {l₀ l : Log} (w : Walked units_division c.args.room c.args.text.now l₀ (c.loop-n.at + c.alone_run-run.result) l)
+    → let n = c.in-Whole.n in
+    Next c.args.room c.args.text.now l₀ w n (passed n l)
+whole c w = next-whole c.args.room c.args.text.now _ w c.segment.result c.segment.ensures _ c.in-Whole.is
 
 pub pass-tally-requires-in-Whole : goal.pass-tally-requires-in-Whole
-pass-tally-requires-in-Whole c = let n = whole c in omega (arith, n.fits.sums)
+pass-tally-requires-in-Whole c =
+    let n = whole c (ran (goal.at.pass-tally-requires-in-Whole c).After-pass-tally) in
+    omega (arith, n.fits.sums)
 
 pub overflow_add-at-in-Whole : goal.overflow_add-at-in-Whole
-overflow_add-at-in-Whole c = let n = whole (goal.at.overflow_add-at-in-Whole c).In-Whole in omega (arith, n.inside_is)
+overflow_add-at-in-Whole c =
+    let at = goal.at.overflow_add-at-in-Whole c in
+    let n = whole at.In-Whole (ran at.After-pass-tally) in
+    omega (arith, n.inside_is)
 
 pub loop-n-smaller-in-Whole : goal.loop-n-smaller-in-Whole
-loop-n-smaller-in-Whole c = let n = whole (goal.at.loop-n-smaller-in-Whole c).In-Whole in omega (arith, n.some, n.inside_is)
+loop-n-smaller-in-Whole c =
+    let at = goal.at.loop-n-smaller-in-Whole c in
+    let n = whole at.In-Whole (ran at.After-pass-tally) in
+    omega (arith, n.some, n.inside_is)
 
 pub loop-n-preserved-in-Whole : goal.loop-n-preserved-in-Whole
 loop-n-preserved-in-Whole c =
-    (c.loop-n.invariant.0, (whole (goal.at.loop-n-preserved-in-Whole c).In-Whole).walks _ (c.pass-tally-in-Whole.ensures c.loop-n.list))
+    let at = goal.at.loop-n-preserved-in-Whole c in
+    (c.loop-n.invariant.0, (whole at.In-Whole (ran at.After-pass-tally)).walks _ (c.pass-tally-in-Whole.ensures c.loop-n.list))
 
 -- damage stands there
-damaged : (c : After-strike-arg-1)
-    → let begun : Log = log_of c.args.tally c.args.list.now in let ran : Walked units_division c.args.room c.args.text.now begun (c.loop-n.at + c.alone_run-run.result) (log_of c.pass-tally.result c.loop-n.list) = run-next c.args.room c.args.text.now begun c.loop-n.invariant.1 c.alone_run-run.result c.alone_run-run.ensures.0 c.alone_run-run.ensures.1 _ (c.pass-tally.ensures c.loop-n.list) in
-    let n = c.in-Damage.n in
-    let why = c.in-Damage.cause in
-    Next c.args.room c.args.text.now begun ran n (struck c.args.room n why (log_of c.pass-tally.result c.loop-n.list))
-damaged c =
-    let begun : Log = log_of c.args.tally c.args.list.now in
-    let ran : Walked units_division c.args.room c.args.text.now begun (c.loop-n.at + c.alone_run-run.result) (log_of c.pass-tally.result c.loop-n.list) = run-next c.args.room c.args.text.now begun c.loop-n.invariant.1 c.alone_run-run.result c.alone_run-run.ensures.0 c.alone_run-run.ensures.1 _
-    (c.pass-tally.ensures c.loop-n.list) in
-    next-damage c.args.room c.args.text.now begun ran c.segment.result c.segment.ensures _ _ c.in-Damage.is
+damaged : (c : After-strike-arg-1) {l₀ l : Log}
+    (w : Walked units_division c.args.room c.args.text.now l₀ (c.loop-n.at + c.alone_run-run.result) l)
+    → let n = c.in-Damage.n in
+    Next c.args.room c.args.text.now l₀ w n (struck c.args.room n c.in-Damage.cause l)
+damaged c w = next-damage c.args.room c.args.text.now _ w c.segment.result c.segment.ensures _ _ c.in-Damage.is
 
 pub strike-tally-requires : goal.strike-tally-requires
-strike-tally-requires c = (damaged c).fits
+strike-tally-requires c = (damaged c (ran (goal.at.strike-tally-requires c).After-pass-tally)).fits
 
 pub overflow_add-at-in-Damage : goal.overflow_add-at-in-Damage
-overflow_add-at-in-Damage c = let n = damaged (goal.at.overflow_add-at-in-Damage c).After-strike-arg-1 in omega (arith, n.inside_is)
+overflow_add-at-in-Damage c =
+    let at = goal.at.overflow_add-at-in-Damage c in
+    let n = damaged at.After-strike-arg-1 (ran at.After-pass-tally) in
+    omega (arith, n.inside_is)
 
 pub loop-n-smaller : goal.loop-n-smaller
-loop-n-smaller c = let n = damaged (goal.at.loop-n-smaller c).After-strike-arg-1 in omega (arith, n.some, n.inside_is)
+loop-n-smaller c =
+    let at = goal.at.loop-n-smaller c in
+    let n = damaged at.After-strike-arg-1 (ran at.After-pass-tally) in
+    omega (arith, n.some, n.inside_is)
 
 pub loop-n-preserved : goal.loop-n-preserved
 loop-n-preserved c =
-    (c.strike-tally.auto.list ∙ c.loop-n.invariant.0, (damaged (goal.at.loop-n-preserved c).After-strike-arg-1).walks _ c.strike-tally.ensures)
+    let at = goal.at.loop-n-preserved c in
+    let n = damaged at.After-strike-arg-1 (ran at.After-pass-tally) in
+    (c.strike-tally.auto.list ∙ c.loop-n.invariant.0, n.walks _ c.strike-tally.ensures)
 
 pub shape_of-list-in-Begun : goal.shape_of-list-in-Begun
 shape_of-list-in-Begun c = c.loop-n.invariant.0
 
 pub returns-in-Begun : goal.returns-in-Begun
 returns-in-Begun c =
-    end-begun c.args.room c.args.text.now (begun (goal.at.returns-in-Begun c).Start) (ran (goal.at.returns-in-Begun c).After-pass-tally) c.segment.result c.segment.ensures _ c.in-Begun.is
+    let a = c.args in
+    end-begun a.room a.text.now (log_of a.tally a.list.now) (ran (goal.at.returns-in-Begun c).After-pass-tally)
+    c.segment.result c.segment.ensures _ c.in-Begun.is
