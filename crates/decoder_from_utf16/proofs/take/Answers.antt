@@ -16,11 +16,7 @@ use Rattle.decoder_from_utf16.proofs.take.Goals.{After-size-size, Start}
 use Rattle.decoder_from_utf16.proofs.take.Goals as goal
 
 -- the state may take it, and so it passes its tests
-abbrev Lent : (c : Start)
-    → Type 0
-Lent c = Admits unit_decoding c.args.state (length c.args.piece.now) (length c.args.list.now)
-
-may : (c : Start) → Lent c
+may : (c : Start) → Admits unit_decoding c.args.state (length c.args.piece.now) (length c.args.list.now)
 may c = admits unit_decoding c.args.state (length c.args.piece.now) (length c.args.list.now) (sym c.requires)
 
 tests : (c : Start) → Sound c.args.state
@@ -31,14 +27,17 @@ overflow_add-taken c = omega (arith, (may (goal.at.overflow_add-taken c).Start).
 
 pub feed_rest-requires : goal.feed_rest-requires
 feed_rest-requires c =
-    none-rests c.args.state c.args.piece.now c.args.list.now (tests (goal.at.feed_rest-requires c).Start) (may (goal.at.feed_rest-requires c).Start)
+    let a = c.args in
+    let at = goal.at.feed_rest-requires c in
+    none-rests a.state a.piece.now a.list.now (tests at.Start) (may at.Start)
 
 pub returns-then-state-eq0 : goal.returns-then-state-eq0
 returns-then-state-eq0 c =
     let a = c.args in
+    let at = goal.at.returns-then-state-eq0 c in
     subst (λ (s : State Log). Answers unit_decoding a.state (a.state.taken + length a.piece.now) s a.out.now a.list.now
     c.feed_rest.new.out c.feed_rest.new.list (told_written c.feed_rest.result.answer) c.feed_rest.result.state)
-    (none-fed a.state a.piece.now a.list.now (tests (goal.at.returns-then-state-eq0 c).Start) (may (goal.at.returns-then-state-eq0 c).Start) c.if-state-eq0.true) c.feed_rest.ensures
+    (none-fed a.state a.piece.now a.list.now (tests at.Start) (may at.Start) c.if-state-eq0.true) c.feed_rest.ensures
 
 -- an array of one place
 one : (c : Start) → length c.args.state.held ≡ 1
@@ -46,57 +45,70 @@ one c = c.well_formed.0.1.1.0.1.0.1
 
 pub returns-then-piece-eq0 : goal.returns-then-piece-eq0
 returns-then-piece-eq0 c =
-    still c.args.state (one (goal.at.returns-then-piece-eq0 c).Start) (tests (goal.at.returns-then-piece-eq0 c).Start) c.args.piece.now c.args.out.now c.args.list.now c.if-piece-eq0.true
+    let a = c.args in
+    let at = goal.at.returns-then-piece-eq0 c in
+    still a.state (one at.Start) (tests at.Start) a.piece.now a.out.now a.list.now c.if-piece-eq0.true
 
 -- the segment has one unit or two, and the piece has the second
-few : (c : After-size-size) → (1 ≤ c.size-size.result) × (c.size-size.result ≤ 2)
-few c =
-    let Lent : Type 0 = Admits unit_decoding c.args.state (length c.args.piece.now) (length c.args.list.now) in
-    let may : Lent = admits unit_decoding c.args.state (length c.args.piece.now) (length c.args.list.now) (sym c.requires) in
-    let tests : Sound c.args.state = sound_is c.args.state may.tests in
-    let may : Lent = admits unit_decoding c.args.state (length c.args.piece.now) (length c.args.list.now) (sym c.requires) in
-    both-few c.args.state c.args.piece.now c.args.list.now tests may c.if-state-eq0.false c.if-piece-eq0.false
+few : (c : After-size-size) → let a = c.args in
+    Sound a.state → Admits unit_decoding a.state (length a.piece.now) (length a.list.now)
+    → (1 ≤ c.size-size.result) × (c.size-size.result ≤ 2)
+few c tests may =
+    let a = c.args in
+    both-few a.state a.piece.now a.list.now tests may c.if-state-eq0.false c.if-piece-eq0.false
     c.segment-seg.result c.segment-seg.ensures c.size-size.result c.size-size.ensures
 
-has : (c : After-size-size) → c.size-size.result - 1 ≤ length c.args.piece.now
-has c =
-    let Lent : Type 0 = Admits unit_decoding c.args.state (length c.args.piece.now) (length c.args.list.now) in
-    let may : Lent = admits unit_decoding c.args.state (length c.args.piece.now) (length c.args.list.now) (sym c.requires) in
-    let tests : Sound c.args.state = sound_is c.args.state may.tests in
-    let may : Lent = admits unit_decoding c.args.state (length c.args.piece.now) (length c.args.list.now) (sym c.requires) in
-    piece-has c.args.state c.args.piece.now c.args.list.now tests may c.if-state-eq0.false c.if-piece-eq0.false
+has : (c : After-size-size) → let a = c.args in
+    Sound a.state → Admits unit_decoding a.state (length a.piece.now) (length a.list.now)
+    → c.size-size.result - 1 ≤ length a.piece.now
+has c tests may =
+    let a = c.args in
+    piece-has a.state a.piece.now a.list.now tests may c.if-state-eq0.false c.if-piece-eq0.false
     c.segment-seg.result c.segment-seg.ensures c.size-size.result c.size-size.ensures
 
 pub overflow_sub-from : goal.overflow_sub-from
-overflow_sub-from c = let i = (few c).0 in search rules
+overflow_sub-from c =
+    let at = goal.at.overflow_sub-from c in
+    let i = (few c (tests at.Start) (may at.Start)).0 in search rules
 
 pub slice_bounds-seam-end : goal.slice_bounds-seam-end
-slice_bounds-seam-end c = (few c).1
+slice_bounds-seam-end c = let at = goal.at.slice_bounds-seam-end c in (few c (tests at.Start) (may at.Start)).1
 
 pub slice_bounds-feed_rest-end-2 : goal.slice_bounds-feed_rest-end-2
 slice_bounds-feed_rest-end-2 c =
-    sym (both_long c.args.state c.args.piece.now c.args.list.now (tests (goal.at.slice_bounds-feed_rest-end-2 c).Start) (may (goal.at.slice_bounds-feed_rest-end-2 c).Start) c.if-state-eq0.false c.if-piece-eq0.false
+    let a = c.args in
+    let at = goal.at.slice_bounds-feed_rest-end-2 c in
+    sym (both_long a.state a.piece.now a.list.now (tests at.Start) (may at.Start) c.if-state-eq0.false c.if-piece-eq0.false
     c.segment-seg.result c.segment-seg.ensures c.size-size.result c.size-size.ensures)
 
 pub offset_bounds-piece-from : goal.offset_bounds-piece-from
-offset_bounds-piece-from c = let i = (few (goal.at.offset_bounds-piece-from c).After-size-size).1 in search rules
+offset_bounds-piece-from c =
+    let at = goal.at.offset_bounds-piece-from c in
+    let i = (few at.After-size-size (tests at.Start) (may at.Start)).1 in search rules
 
 pub slice_bounds-feed_rest-count : goal.slice_bounds-feed_rest-count
-slice_bounds-feed_rest-count c = let i = has (goal.at.slice_bounds-feed_rest-count c).After-size-size in search rules
+slice_bounds-feed_rest-count c =
+    let at = goal.at.slice_bounds-feed_rest-count c in
+    let i = has at.After-size-size (tests at.Start) (may at.Start) in search rules
 
 pub slice_bounds-feed_rest-start : goal.slice_bounds-feed_rest-start
-slice_bounds-feed_rest-start c = let i = has (goal.at.slice_bounds-feed_rest-start c).After-size-size in search rules
+slice_bounds-feed_rest-start c =
+    let at = goal.at.slice_bounds-feed_rest-start c in
+    let i = has at.After-size-size (tests at.Start) (may at.Start) in search rules
 
 pub feed_rest-requires-2 : goal.feed_rest-requires-2
 feed_rest-requires-2 c =
-    both-rests c.args.state c.args.piece.now c.args.list.now (tests (goal.at.feed_rest-requires-2 c).Start) (may (goal.at.feed_rest-requires-2 c).Start) c.if-state-eq0.false c.if-piece-eq0.false
+    let a = c.args in
+    let at = goal.at.feed_rest-requires-2 c in
+    both-rests a.state a.piece.now a.list.now (tests at.Start) (may at.Start) c.if-state-eq0.false c.if-piece-eq0.false
     c.segment-seg.result c.segment-seg.ensures c.size-size.result c.size-size.ensures
 
 pub returns : goal.returns
 returns c =
     let a = c.args in
+    let at = goal.at.returns c in
     subst (λ (s : State Log). Answers unit_decoding a.state (a.state.taken + length a.piece.now) s a.out.now a.list.now
     c.feed_rest-2.new.out c.feed_rest-2.new.list (told_written c.feed_rest-2.result.answer) c.feed_rest-2.result.state)
-    (both-fed c.args.state c.args.piece.now c.args.list.now (tests (goal.at.returns c).Start) (may (goal.at.returns c).Start) c.if-state-eq0.false c.if-piece-eq0.false
+    (both-fed a.state a.piece.now a.list.now (tests at.Start) (may at.Start) c.if-state-eq0.false c.if-piece-eq0.false
     c.segment-seg.result c.segment-seg.ensures c.size-size.result c.size-size.ensures)
     c.feed_rest-2.ensures
