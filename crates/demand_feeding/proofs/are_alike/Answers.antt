@@ -28,7 +28,10 @@ once-due c =
 pub returns-then-b-is_enough : goal.returns-then-b-is_enough
 returns-then-b-is_enough c =
     let a = c.args in
-    rw (once-due (goal.at.returns-then-b-is_enough c).Else-a-is_enough, ap (beq a.b.granted) (sym c.is_enough-2.ensures) ∙ not-true _ c.if-b-is_enough.true)
+    rw (
+      once-due (goal.at.returns-then-b-is_enough c).Else-a-is_enough,
+      ap (beq a.b.granted) (sym c.is_enough-2.ensures) ∙ not-true _ c.if-b-is_enough.true,
+    )
 
 parts-due : (c : Else-b-is_enough) → let a = c.args in
     beq a.b.granted (enough a.room (length a.parts_list.now) a.form a.parts) ≡ true
@@ -39,7 +42,8 @@ parts-due c =
 pub returns-then-not-a : goal.returns-then-not-a
 returns-then-not-a c =
     let a = c.args in
-    rw (once-due (goal.at.returns-then-not-a c).Else-a-is_enough, parts-due (goal.at.returns-then-not-a c).Else-b-is_enough, not-true a.a.granted c.if-not-a.true)
+    let at = goal.at.returns-then-not-a c in
+    rw (once-due at.Else-a-is_enough, parts-due at.Else-b-is_enough, not-true a.a.granted c.if-not-a.true)
 
 pub returns-then-not-b : goal.returns-then-not-b
 returns-then-not-b c =
@@ -62,41 +66,39 @@ returns-then-not-same_totals c =
       sym c.same_totals.ensures ∙ c.if-not-same_totals.true,
     )
 
-once-enough : (c : Else-not-b) → let a = c.args in enough a.room (length a.once_list.now) a.form a.once ≡ true
-once-enough c =
-    let once-due : let a = c.args in
-    beq a.a.granted (enough a.room (length a.once_list.now) a.form a.once) ≡ true = let a = c.args in
-    ap (beq a.a.granted) (sym c.is_enough.ensures) ∙ not-false _ c.if-a-is_enough.false in
-    let a = c.args in
-    let granted = not-false a.a.granted c.if-not-a.false in
-    beq-yes a.a.granted (enough a.room (length a.once_list.now) a.form a.once) once-due granted
+once-enough : (c : Else-not-b) → let a = c.args in
+    let is = enough a.room (length a.once_list.now) a.form a.once in
+    beq a.a.granted is ≡ true → is ≡ true
+once-enough c due = beq-yes c.args.a.granted _ due (not-false c.args.a.granted c.if-not-a.false)
 
-parts-enough : (c : Else-not-b) → let a = c.args in enough a.room (length a.parts_list.now) a.form a.parts ≡ true
-parts-enough c =
-    let parts-due : let a = c.args in
-    beq a.b.granted (enough a.room (length a.parts_list.now) a.form a.parts) ≡ true = let a = c.args in
-    ap (beq a.b.granted) (sym c.is_enough-2.ensures) ∙ not-false _ c.if-b-is_enough.false in
-    let a = c.args in
-    let granted = not-false a.b.granted c.if-not-b.false in
-    beq-yes a.b.granted (enough a.room (length a.parts_list.now) a.form a.parts) parts-due granted
+parts-enough : (c : Else-not-b) → let a = c.args in
+    let is = enough a.room (length a.parts_list.now) a.form a.parts in
+    beq a.b.granted is ≡ true → is ≡ true
+parts-enough c due = beq-yes c.args.b.granted _ due (not-false c.args.b.granted c.if-not-b.false)
 
 pub overflow_mul-n : goal.overflow_mul-n
 overflow_mul-n c =
     let a = c.args in
-    record { fits = omega (arith, c.least-n.ensures, enough-start a.room (length a.once_list.now) a.form a.once (once-enough (goal.at.overflow_mul-n c).Else-not-b)) }
+    let at = goal.at.overflow_mul-n c in
+    let is = once-enough at.Else-not-b (once-due at.Else-a-is_enough) in
+    record { fits = omega (arith, c.least-n.ensures, enough-start a.room (length a.once_list.now) a.form a.once is) }
 
 pub slice_bounds-same_numbers-end : goal.slice_bounds-same_numbers-end
 slice_bounds-same_numbers-end c =
     let a = c.args in
+    let at = goal.at.slice_bounds-same_numbers-end c in
+    let is = parts-enough at.Else-not-b (parts-due at.Else-b-is_enough) in
     let i : entry_width * c.least-n.result ≤ length a.parts_list.now
-    = rw c.least-n.ensures (enough-stored a.room (length a.parts_list.now) a.form a.parts (parts-enough (goal.at.slice_bounds-same_numbers-end c).Else-not-b) a.a.count) in
+    = rw c.least-n.ensures (enough-stored a.room (length a.parts_list.now) a.form a.parts is a.a.count) in
     sym (length-take-le _ _ i)
 
 pub slice_bounds-same_numbers-end-2 : goal.slice_bounds-same_numbers-end-2
 slice_bounds-same_numbers-end-2 c =
     let a = c.args in
+    let at = goal.at.slice_bounds-same_numbers-end-2 c in
+    let is = once-enough at.Else-not-b (once-due at.Else-a-is_enough) in
     let i : entry_width * c.least-n.result ≤ length a.once_list.now
-    = rw c.least-n.ensures (enough-stored a.room (length a.once_list.now) a.form a.once (once-enough (goal.at.slice_bounds-same_numbers-end-2 c).Else-not-b) a.a.count) in
+    = rw c.least-n.ensures (enough-stored a.room (length a.once_list.now) a.form a.once is a.a.count) in
     sym (length-take-le _ _ i)
 
 pub returns : goal.returns
@@ -109,4 +111,5 @@ returns c =
       not-false a.b.granted c.if-not-b.false,
       sym c.same_totals.ensures ∙ c.if-not-same_totals.false,
     )
-    (c.same_numbers.ensures ∙ ap (λ n. equal (take (entry_width * n) a.parts_list.now) (take (entry_width * n) a.once_list.now)) c.least-n.ensures)
+    (c.same_numbers.ensures
+    ∙ ap (λ n. equal (take (entry_width * n) a.parts_list.now) (take (entry_width * n) a.once_list.now)) c.least-n.ensures)
