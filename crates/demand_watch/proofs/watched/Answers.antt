@@ -9,49 +9,43 @@ use Rattle.demand_watch.proofs.watched.Goals.{After-feed-fed, In-Count}
 use Rattle.demand_watch.proofs.watched.Goals as goal
 
 -- what the feed did, from the fresh state
-did : (c : After-feed-fed)
-    → Feeds (fresh_of c.args.room)
-    c.args.text.now
-    c.args.out.now
-    c.args.list.now
-    c.feed-fed.new.out c.feed-fed.new.list c.feed-fed.result
+did : (c : After-feed-fed) → let a = c.args in
+    Feeds (fresh_of a.room) a.text.now a.out.now a.list.now c.feed-fed.new.out c.feed-fed.new.list c.feed-fed.result
 did c = rw c.fresh.ensures at c.feed-fed.ensures
 
 -- where it was granted
-same : (c : In-Count)
-    → Same c.watch_all-last.result
-    c.feed-fed.result
-same c =
-    let did : Feeds (fresh_of c.args.room)
-    c.args.text.now
-    c.args.out.now
-    c.args.list.now
-    c.feed-fed.new.out c.feed-fed.new.list c.feed-fed.result = rw c.fresh.ensures at c.feed-fed.ensures in
+same : (c : In-Count) → let a = c.args in
+    Feeds (fresh_of a.room) a.text.now a.out.now a.list.now c.feed-fed.new.out c.feed-fed.new.list c.feed-fed.result
+    → Same c.watch_all-last.result c.feed-fed.result
+same c did =
     let a = c.args in
     same_as_fed a.room a.text.now a.out.now a.list.now c.watch_all-last.result c.feed-fed.result c.watch_all-last.ensures
     did c.in-Count.field-0 c.in-Count.is
 
 pub returns-then-wide-fed : goal.returns-then-wide-fed
 returns-then-wide-fed c =
-    absurd (c.if-wide-fed.true (c.wide.ensures ∙ (same (goal.at.returns-then-wide-fed c).In-Count).reply))
+    let at = goal.at.returns-then-wide-fed c in
+    absurd (c.if-wide-fed.true (c.wide.ensures ∙ (same at.In-Count (did at.After-feed-fed)).reply))
 
 pub returns-else-wide-fed : goal.returns-else-wide-fed
 returns-else-wide-fed c =
-    let q = c.feed-fed.result in
-    let w = c.watch_all-last.result in
+    let at = goal.at.returns-else-wide-fed c in
+    let f = did at.After-feed-fed in
     record {
-      yes = c.same_state.ensures ∙ same_if w.state q.state (same (goal.at.returns-else-wide-fed c).In-Count).state;
-      output = (did (goal.at.returns-else-wide-fed c).After-feed-fed).output;
-      entries = (did (goal.at.returns-else-wide-fed c).After-feed-fed).entries;
+      yes = c.same_state.ensures ∙ same_if c.watch_all-last.result.state c.feed-fed.result.state (same at.In-Count f).state;
+      output = f.output;
+      entries = f.entries;
     }
 
 pub returns-in-Refused : goal.returns-in-Refused
 returns-in-Refused c =
     let a = c.args in
+    let f = did (goal.at.returns-in-Refused c).After-feed-fed in
     record {
       yes =
           rw (c.feed-fed.auto.out, c.feed-fed.auto.list) at c.is_due.ensures
-          ∙ refused-due a.room a.text.now a.out.now a.list.now c.in-Refused.why (sym (ap told_written c.in-Refused.is) ∙ (did (goal.at.returns-in-Refused c).After-feed-fed).answer);
-      output = (did (goal.at.returns-in-Refused c).After-feed-fed).output;
-      entries = (did (goal.at.returns-in-Refused c).After-feed-fed).entries;
+          ∙ refused-due a.room a.text.now a.out.now a.list.now c.in-Refused.why
+          (sym (ap told_written c.in-Refused.is) ∙ f.answer);
+      output = f.output;
+      entries = f.entries;
     }
