@@ -5,10 +5,11 @@ use mathlib.Core.List.{List, [], ◌∷◌}
 use lib.ListN.{get_or}
 use Rattle.terms.specs.Writing.{Writes}
 use Rattle.terms.specs.declared.Point.{Point}
-use Rattle.terms.specs.declared.Written.{Written}
+use Rattle.std.specs.Prelude.{Result}
+use Rattle.terms.specs.declared.Refusal.{Refusal}
 use Rattle.terms.proofs.ToldBack.{by-back, told-written}
 
-pub writes_once : {says form out out' out'' : List ℕ} {q r : Written} → Writes says form out out' q → Writes says form out out'' r
+pub writes_once : {says form out out' out'' : List ℕ} {q r : Result ℕ Refusal} → Writes says form out out' q → Writes says form out out'' r
     → (q ≡ r) × (out' ≡ out'')
 writes_once {q = q} {r = r} f g = (told-written q r (f.answer ∙ sym g.answer), f.output ∙ sym g.output)
 

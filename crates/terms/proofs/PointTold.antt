@@ -9,7 +9,8 @@ use native.Mathlib.Omega.{arith}
 use Rattle.theory.specs.Table.{ended, Kind, whole, damage, is_damage}
 use Rattle.theory.proofs.Divisions.{Division, first-size}
 use Rattle.terms.specs.Form.{Form, replacement, point_says}
-use Rattle.terms.specs.Told.{told_first, first_says}
+use Rattle.terms.specs.Told.{number_of, told_first, first_says}
+use Rattle.terms.specs.declared.Cause.{Cause}
 use Rattle.terms.specs.declared.First.{First}
 use Rattle.terms.specs.declared.First.TheVariants.{Nothing, Whole, Damage, Begun}
 use Rattle.terms.proofs.WalkBySegments.{nothing_seen, Seen, seen}
@@ -61,8 +62,8 @@ module _ (F : Form) (D : Division F.look) (text : List ℕ) where
         let f : (F.look s.head s.tail).more ≤ length s.tail = D.fits s.head s.tail in
         record { seen_as = s; some = omega arith; inside = omega arith; says = point-of n whole true s }
 
-    pub point-damage : (n c : ℕ) → r ≡ Damage n c → replacement ∷ n ∷ [] ≡ point_says F text
-    point-damage n c e = point-of n (damage c) true (seen F.look text n (damage c) true (told-as (Damage n c) e))
+    pub point-damage : (n : ℕ) (c : Cause) → r ≡ Damage n c → replacement ∷ n ∷ [] ≡ point_says F text
+    point-damage n c e = point-of n (damage (number_of c)) true (seen F.look text n (damage (number_of c)) true (told-as (Damage n c) e))
 
     pub point-begun : (n : ℕ) → r ≡ Begun n → replacement ∷ n ∷ [] ≡ point_says F text
     point-begun n e = point-of n (damage ended) false (seen F.look text n (damage ended) false (told-as (Begun n) e))

@@ -2,33 +2,45 @@
 use mathlib.Core.Path.{◌≡◌, refl, sym, ap, ◌∙◌}
 use Prim.Native.Nat.{ℕ}
 use mathlib.Core.Bool.{false, cond}
-use mathlib.Core.List.{List}
+use mathlib.Core.List.{List, [], ◌∷◌}
 use lib.ListN.{length, get_or}
 use lib.Dec.{eqb}
-use Rattle.terms.specs.Told.{told_refusal, told_first, told_checked, told_written}
+use Rattle.std.specs.Prelude.{Result, Ok, Err}
+use Rattle.terms.specs.Told.{number_of, told_refusal, told_first, told, told_checked, told_written}
+use Rattle.terms.specs.declared.Cause.{Cause}
+use Rattle.terms.specs.declared.Cause.TheVariants.{Stray, Foreign, Stopped, Ended}
 use Rattle.terms.specs.declared.First.{First}
 use Rattle.terms.specs.declared.First.TheVariants.{Nothing, Whole, Damage, Begun}
 use Rattle.terms.specs.declared.Refusal.{Refusal}
 use Rattle.terms.specs.declared.Refusal.TheVariants.{Damaged, OverLimit, NoRoom, PastEnd, Inside, Unusable, ListRoom, BadState, NoScalar, NotInPage}
-use Rattle.terms.specs.declared.Checked.{Checked}
-use Rattle.terms.specs.declared.Checked.TheVariants.{WellFormed, Refused}
-use Rattle.terms.specs.declared.Written.{Written}
-use Rattle.terms.specs.declared.Written.TheVariants as the_written
 
 -- what can be read back is not lost
 pub by-back : {A : Type 0} (told : A → List ℕ) (back : List ℕ → A) → ((a : A) → back (told a) ≡ a) → (a b : A) → told a ≡ told b → a ≡ b
 by-back told back h a b e = sym (h a) ∙ ap back e ∙ h b
 
+unfoldable pub back_cause : ℕ → Cause
+back_cause n = cond (eqb n 1) Stray (cond (eqb n 2) Foreign (cond (eqb n 3) Stopped Ended))
+
+pub cause_back : (c : Cause) → back_cause (number_of c) ≡ c
+unfolding back_cause
+cause_back Stray = refl
+cause_back Foreign = refl
+cause_back Stopped = refl
+cause_back Ended = refl
+
+pub number_of_lem : (a b : Cause) → number_of a ≡ number_of b → a ≡ b
+number_of_lem a b e = sym (cause_back a) ∙ ap back_cause e ∙ cause_back b
+
 unfoldable pub back_refusal : List ℕ → Refusal
 back_refusal l =
     let n = get_or l 0 0 in
     let v = get_or l 1 0 in
-    cond (eqb n 1) (Damaged v (get_or l 2 0) (get_or l 3 0)) (cond (eqb n 2) OverLimit (cond (eqb n 3) (NoRoom v) (cond (eqb n 4) PastEnd
+    cond (eqb n 1) (Damaged v (get_or l 2 0) (back_cause (get_or l 3 0))) (cond (eqb n 2) OverLimit (cond (eqb n 3) (NoRoom v) (cond (eqb n 4) PastEnd
     (cond (eqb n 5) Inside (cond (eqb n 6) (Unusable v) (cond (eqb n 7) ListRoom (cond (eqb n 8) BadState (cond (eqb n 9) (NoScalar v) (NotInPage v)))))))))
 
 pub refusal_back : (a : Refusal) → back_refusal (told_refusal a) ≡ a
 unfolding back_refusal
-refusal_back (Damaged start length cause) = refl
+refusal_back (Damaged start length cause) = rw (cause_back cause)
 refusal_back OverLimit = refl
 refusal_back (NoRoom needed) = refl
 refusal_back PastEnd = refl
@@ -45,13 +57,13 @@ told_refusal_lem = by-back told_refusal back_refusal refusal_back
 back_first : List ℕ → First
 back_first l =
     let n = get_or l 1 0 in
-    cond (eqb (length l) 0) Nothing (cond (eqb (get_or l 2 0) 0) (Begun n) (cond (eqb (get_or l 0 0) 0) (Whole n) (Damage n (get_or l 3 0))))
+    cond (eqb (length l) 0) Nothing (cond (eqb (get_or l 2 0) 0) (Begun n) (cond (eqb (get_or l 0 0) 0) (Whole n) (Damage n (back_cause (get_or l 3 0)))))
 
 first_back : (a : First) → back_first (told_first a) ≡ a
 unfolding back_first
 first_back Nothing = refl
 first_back (Whole n) = refl
-first_back (Damage n cause) = refl
+first_back (Damage n cause) = rw (cause_back cause)
 first_back (Begun n) = refl
 
 pub told-first : (a b : First) → told_first a ≡ told_first b → a ≡ b
@@ -73,24 +85,21 @@ no_zero BadState = refl
 no_zero (NoScalar position) = refl
 no_zero (NotInPage offset) = refl
 
-back_checked : List ℕ → Checked
-back_checked l = cond (eqb (get_or l 0 0) 0) WellFormed (Refused (back_refusal l))
+-- an answer, where what it grants can be read back
+module _ {A : Type 0} (values : A → List ℕ) (back : List ℕ → A) (h : (a : A) → back (0 ∷ values a) ≡ a) where
+  back_told : List ℕ → Result A Refusal
+  back_told l = cond (eqb (get_or l 0 0) 0) (Ok (back l)) (Err (back_refusal l))
 
-checked-back : (a : Checked) → back_checked (told_checked a) ≡ a
-unfolding back_checked
-checked-back WellFormed = refl
-checked-back (Refused r) = rw (no_zero r, refusal_back r)
+  told_back : (a : Result A Refusal) → back_told (told values a) ≡ a
+  unfolding back_told
+  told_back (Ok a) = ap (λ (x : A). Ok x) (h a)
+  told_back (Err r) = rw (no_zero r, refusal_back r)
 
-pub told-checked : (a b : Checked) → told_checked a ≡ told_checked b → a ≡ b
-told-checked = by-back told_checked back_checked checked-back
+  pub told_lem : (a b : Result A Refusal) → told values a ≡ told values b → a ≡ b
+  told_lem = by-back (told values) back_told told_back
 
-back_written : List ℕ → Written
-back_written l = cond (eqb (get_or l 0 0) 0) (the_written.Count (get_or l 1 0)) (the_written.Refused (back_refusal l))
+pub told-checked : (a b : Result (Unit {0}) Refusal) → told_checked a ≡ told_checked b → a ≡ b
+told-checked = told_lem (λ _. []) (λ _. tt) (λ _. refl)
 
-written_back : (a : Written) → back_written (told_written a) ≡ a
-unfolding back_written
-written_back (the_written.Count n) = refl
-written_back (the_written.Refused r) = rw (no_zero r, refusal_back r)
-
-pub told-written : (a b : Written) → told_written a ≡ told_written b → a ≡ b
-told-written = by-back told_written back_written written_back
+pub told-written : (a b : Result ℕ Refusal) → told_written a ≡ told_written b → a ≡ b
+told-written = told_lem (λ n. n ∷ []) (λ l. get_or l 1 0) (λ _. refl)

@@ -15,7 +15,8 @@ use Rattle.theory.specs.Tally.{total, size, Entry, entries}
 use Rattle.theory.proofs.Divisions.{Division, first-size, cut-nil, cut-cons, cut-size}
 use Rattle.theory.proofs.Cases.{split}
 use Rattle.terms.specs.Limits.{limit}
-use Rattle.terms.specs.Told.{told_first, size_of, bit, look_says, first_says}
+use Rattle.terms.specs.declared.Cause.{Cause}
+use Rattle.terms.specs.Told.{number_of, told_first, size_of, bit, look_says, first_says}
 use Rattle.terms.specs.Strict.{damages, strictly, damaged, limited, check_says}
 use Rattle.terms.specs.declared.First.{First}
 use Rattle.terms.specs.declared.First.TheVariants.{Nothing, Whole, Damage, Begun}
@@ -109,8 +110,8 @@ module _ {look : Reader Kind} (D : Division look) (text : List ℕ) (at : ℕ) w
     pub turn-whole : (n : ℕ) → r ≡ Whole n → Turn look text at n whole
     turn-whole n e = turn-of n whole true h (seen look (drop at text) n whole true (told-as (Whole n) e))
 
-    pub turn-damage : (n c : ℕ) → r ≡ Damage n c → Turn look text at n (damage c)
-    turn-damage n c e = turn-of n (damage c) true h (seen look (drop at text) n (damage c) true (told-as (Damage n c) e))
+    pub turn-damage : (n : ℕ) (c : Cause) → r ≡ Damage n c → Turn look text at n (damage (number_of c))
+    turn-damage n c e = turn-of n (damage (number_of c)) true h (seen look (drop at text) n (damage (number_of c)) true (told-as (Damage n c) e))
 
     pub turn-begun : (n : ℕ) → r ≡ Begun n → Turn look text at n (damage ended)
     turn-begun n e = turn-of n (damage ended) false h (seen look (drop at text) n (damage ended) false (told-as (Begun n) e))

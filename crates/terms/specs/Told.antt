@@ -1,19 +1,28 @@
 -- What each answer tells, in the paper's numbers: the refusal's number and its values, or 0 and the values of what was granted.
-use Rattle.std.specs.Prelude.{ℕ, suc, Bool, cond, List, [], ◌∷◌, get_or, eqb}
+use Rattle.std.specs.Prelude.{ℕ, suc, Bool, cond, List, [], ◌∷◌, get_or, eqb, Option, None, Some, Result, Ok, Err}
 use Rattle.theory.specs.Reader.{Look, Reader}
-use Rattle.theory.specs.Table.{ended, Kind, is_damage, cause_of}
+use Rattle.theory.specs.Table.{stray, foreign, stopped, ended, Kind, is_damage, cause_of}
+use Rattle.terms.specs.declared.Cause.{Cause}
+use Rattle.terms.specs.declared.Cause.TheVariants.{Stray, Foreign, Stopped, Ended}
 use Rattle.terms.specs.declared.First.{First}
 use Rattle.terms.specs.declared.First.TheVariants.{Nothing, Whole, Damage, Begun}
 use Rattle.terms.specs.declared.Refusal.{Refusal}
 use Rattle.terms.specs.declared.Refusal.TheVariants.{Damaged, OverLimit, NoRoom, PastEnd, Inside, Unusable, ListRoom, BadState, NoScalar, NotInPage}
-use Rattle.terms.specs.declared.Checked.{Checked}
-use Rattle.terms.specs.declared.Checked.TheVariants as the-checked
-use Rattle.terms.specs.declared.Written.{Written}
-use Rattle.terms.specs.declared.Written.TheVariants as the_written
+
+-- the causes by their numbers, 0 for none
+abbrev pub number_of : Cause → ℕ
+number_of Stray = stray
+number_of Foreign = foreign
+number_of Stopped = stopped
+number_of Ended = ended
+
+abbrev pub told_cause : Option Cause → ℕ
+told_cause None = 0
+told_cause (Some c) = number_of c
 
 -- THE TABLE OF REFUSALS
 abbrev pub told_refusal : Refusal → List ℕ
-told_refusal (Damaged start length cause) = 1 ∷ start ∷ length ∷ cause ∷ []
+told_refusal (Damaged start length cause) = 1 ∷ start ∷ length ∷ number_of cause ∷ []
 told_refusal OverLimit = 2 ∷ []
 told_refusal (NoRoom needed) = 3 ∷ needed ∷ []
 told_refusal PastEnd = 4 ∷ []
@@ -28,7 +37,7 @@ told_refusal (NotInPage offset) = 10 ∷ offset ∷ []
 abbrev pub told_first : First → List ℕ
 told_first Nothing = []
 told_first (Whole n) = 0 ∷ n ∷ 1 ∷ 0 ∷ []
-told_first (Damage n cause) = 1 ∷ n ∷ 1 ∷ cause ∷ []
+told_first (Damage n cause) = 1 ∷ n ∷ 1 ∷ number_of cause ∷ []
 told_first (Begun n) = 1 ∷ n ∷ 0 ∷ ended ∷ []
 
 -- how many elements it has
@@ -42,16 +51,21 @@ size_of (Begun n) = n
 abbrev pub cause_told : First → ℕ
 cause_told Nothing = 0
 cause_told (Whole n) = 0
-cause_told (Damage n cause) = cause
+cause_told (Damage n cause) = number_of cause
 cause_told (Begun n) = ended
 
-abbrev pub told_checked : Checked → List ℕ
-told_checked the-checked.WellFormed = 0 ∷ []
-told_checked (the-checked.Refused r) = told_refusal r
+-- AN ANSWER: 0 and the values of what was granted, or the refusal
+abbrev pub told : {A : Type 0} → (A → List ℕ) → Result A Refusal → List ℕ
+told values (Ok a) = 0 ∷ values a
+told values (Err r) = told_refusal r
 
-abbrev pub told_written : Written → List ℕ
-told_written (the_written.Count n) = 0 ∷ n ∷ []
-told_written (the_written.Refused r) = told_refusal r
+-- of a call that grants and tells no value more, as a strict check
+abbrev pub told_checked : Result (Unit {0}) Refusal → List ℕ
+told_checked = told (λ _. [])
+
+-- of a call that writes: how many places were written from the start of the output
+abbrev pub told_written : Result ℕ Refusal → List ℕ
+told_written = told (λ n. n ∷ [])
 
 -- a test as a number
 abbrev pub bit : Bool → ℕ

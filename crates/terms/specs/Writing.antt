@@ -1,11 +1,11 @@
 -- Calls that write a form of a text into a lent output: what they answer, and what the output then holds.
-use Rattle.std.specs.Prelude.{◌≡◌, ℕ, cond, List, [], ◌∷◌, ◌++◌, length, drop, ltb}
+use Rattle.std.specs.Prelude.{◌≡◌, ℕ, cond, List, [], ◌∷◌, ◌++◌, length, drop, ltb, Result}
 use Rattle.theory.specs.Tally.{Entry}
 use Rattle.theory.specs.Table.{Kind}
 use Rattle.terms.specs.Form.{Form, converted}
 use Rattle.terms.specs.Strict.{damages, strictly, limited}
 use Rattle.terms.specs.Told.{told_written, if_granted}
-use Rattle.terms.specs.declared.Written.{Written}
+use Rattle.terms.specs.declared.Refusal.{Refusal}
 
 -- refusal 3 with the need, the length of the form, where the output has fewer places; or how many were written
 abbrev pub roomed : ℕ → List ℕ → List ℕ
@@ -16,7 +16,7 @@ abbrev pub output_of : List ℕ → List ℕ → List ℕ → List ℕ
 output_of says form out = if_granted says (form ++ drop (length form) out) out
 
 -- what a writing call promises: its answer, and the output
-pub record Writes (says form out out' : List ℕ) (r : Written) : Type 0 where
+pub record Writes (says form out out' : List ℕ) (r : Result ℕ Refusal) : Type 0 where
   pub answer : told_written r ≡ says
   pub output : out' ≡ output_of says form out
 

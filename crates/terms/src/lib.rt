@@ -3,7 +3,7 @@
 
 ghost use Rattle.std.specs.Prelude.{◌≡◌, [], ◌∷◌, get_or};
 ghost use Rattle.terms.specs.Limits.{fresh_of};
-ghost use Rattle.terms.specs.Told.{size_of, cause_told, told_refusal, told_checked};
+ghost use Rattle.terms.specs.Told.{number_of, size_of, cause_told, told_cause, told_refusal};
 
 // The decoder of a byte text that comes in pieces: what it keeps between two pieces. The limits belong to it.
 #[repr(C)]
@@ -44,31 +44,44 @@ impl Decoder {
             whole: 0,
             damaged: 0,
             count: 0,
-            room: room,
+            room,
         }
+    }
+}
+
+// Why elements are damage.
+#[derive(Clone, Copy, PartialEq, Eq)]
+pub enum Cause {
+    // An element that only goes on with sequences, and none goes on here.
+    Stray = 1,
+    // An element that stands in no sequence.
+    Foreign = 2,
+    // A begun sequence that another element stops.
+    Stopped = 3,
+    // A begun sequence that the end of the text stops.
+    Ended = 4,
+}
+
+impl Cause {
+    // Its number, 1 to 4, as a list of damages has it.
+    pub fn number(self) -> u32
+        ensures { result ≡ number_of self }
+    {
+        self as u32
     }
 }
 
 // What stands first in a text: nothing, as it is empty; a whole segment of so many elements; damage of so many, and its cause; or damage
 // that ends the text and begins a well-formed sequence, so that more text could still make it whole.
-#[derive(Clone, Copy)]
+#[derive(Clone, Copy, PartialEq, Eq)]
 pub enum First {
     Nothing,
     Whole(usize),
-    Damage(usize, u32),
+    Damage(usize, Cause),
     Begun(usize),
 }
 
 impl First {
-    // The causes of damage: an element that only goes on with sequences, and none goes on here.
-    pub const STRAY: u32 = 1;
-    // An element that stands in no sequence.
-    pub const FOREIGN: u32 = 2;
-    // A begun sequence that another element stops.
-    pub const STOPPED: u32 = 3;
-    // A begun sequence that the end of the text stops.
-    pub const ENDED: u32 = 4;
-
     // How many elements it has.
     pub fn size(self) -> usize
         ensures { result ≡ size_of self }
@@ -81,15 +94,15 @@ impl First {
         }
     }
 
-    // Why it is damaged, 0 where it is not.
-    pub fn cause(self) -> u32
-        ensures { result ≡ cause_told self }
+    // Why it is damaged, if it is.
+    pub fn cause(self) -> Option<Cause>
+        ensures { told_cause result ≡ cause_told self }
     {
         match self {
-            First::Nothing => 0,
-            First::Whole(_) => 0,
-            First::Damage(_, cause) => cause,
-            First::Begun(_) => First::ENDED,
+            First::Nothing => None,
+            First::Whole(_) => None,
+            First::Damage(_, cause) => Some(cause),
+            First::Begun(_) => Some(Cause::Ended),
         }
     }
 }
@@ -103,12 +116,12 @@ pub struct Point {
 }
 
 // Why a call refuses, in the order of the numbers 1 to 10.
-#[derive(Clone, Copy)]
+#[derive(Clone, Copy, PartialEq, Eq)]
 pub enum Refusal {
     Damaged {
         start: usize,
         length: usize,
-        cause: u32,
+        cause: Cause,
     },
     OverLimit,
     NoRoom {
@@ -130,25 +143,32 @@ pub enum Refusal {
 }
 
 impl Refusal {
+    // Refusal 1 with the first damage.
+    pub fn damaged(start: usize, length: usize, cause: Cause) -> Refusal
+        ensures { told_refusal result ≡ 1 ∷ start ∷ length ∷ number_of cause ∷ [] }
+    {
+        Refusal::Damaged {
+            start,
+            length,
+            cause,
+        }
+    }
+
     // Its number, 1 to 10.
     pub fn number(self) -> usize
         ensures { result ≡ get_or (told_refusal self) 0 0 }
     {
         match self {
-            Refusal::Damaged {
-                start: _,
-                length: _,
-                cause: _,
-            } => 1,
+            Refusal::Damaged { .. } => 1,
             Refusal::OverLimit => 2,
-            Refusal::NoRoom { needed: _ } => 3,
+            Refusal::NoRoom { .. } => 3,
             Refusal::PastEnd => 4,
             Refusal::Inside => 5,
-            Refusal::Unusable { checkpoint: _ } => 6,
+            Refusal::Unusable { .. } => 6,
             Refusal::ListRoom => 7,
             Refusal::BadState => 8,
-            Refusal::NoScalar { position: _ } => 9,
-            Refusal::NotInPage { offset: _ } => 10,
+            Refusal::NoScalar { .. } => 9,
+            Refusal::NotInPage { .. } => 10,
         }
     }
 
@@ -157,20 +177,12 @@ impl Refusal {
         ensures { result ≡ get_or (told_refusal self) 1 0 }
     {
         match self {
-            Refusal::Damaged {
-                start,
-                length: _,
-                cause: _,
-            } => start,
-            Refusal::OverLimit => 0,
+            Refusal::Damaged { start, .. } => start,
             Refusal::NoRoom { needed } => needed,
-            Refusal::PastEnd => 0,
-            Refusal::Inside => 0,
             Refusal::Unusable { checkpoint } => checkpoint,
-            Refusal::ListRoom => 0,
-            Refusal::BadState => 0,
             Refusal::NoScalar { position } => position,
             Refusal::NotInPage { offset } => offset,
+            _ => 0,
         }
     }
 
@@ -179,20 +191,8 @@ impl Refusal {
         ensures { result ≡ get_or (told_refusal self) 2 0 }
     {
         match self {
-            Refusal::Damaged {
-                start: _,
-                length,
-                cause: _,
-            } => length,
-            Refusal::OverLimit => 0,
-            Refusal::NoRoom { needed: _ } => 0,
-            Refusal::PastEnd => 0,
-            Refusal::Inside => 0,
-            Refusal::Unusable { checkpoint: _ } => 0,
-            Refusal::ListRoom => 0,
-            Refusal::BadState => 0,
-            Refusal::NoScalar { position: _ } => 0,
-            Refusal::NotInPage { offset: _ } => 0,
+            Refusal::Damaged { length, .. } => length,
+            _ => 0,
         }
     }
 
@@ -201,47 +201,8 @@ impl Refusal {
         ensures { result ≡ get_or (told_refusal self) 3 0 }
     {
         match self {
-            Refusal::Damaged {
-                start: _,
-                length: _,
-                cause,
-            } => cause as usize,
-            Refusal::OverLimit => 0,
-            Refusal::NoRoom { needed: _ } => 0,
-            Refusal::PastEnd => 0,
-            Refusal::Inside => 0,
-            Refusal::Unusable { checkpoint: _ } => 0,
-            Refusal::ListRoom => 0,
-            Refusal::BadState => 0,
-            Refusal::NoScalar { position: _ } => 0,
-            Refusal::NotInPage { offset: _ } => 0,
+            Refusal::Damaged { cause, .. } => cause.number() as usize,
+            _ => 0,
         }
     }
-}
-
-// The answer of a strict check.
-#[derive(Clone, Copy)]
-pub enum Checked {
-    WellFormed,
-    Refused(Refusal),
-}
-
-impl Checked {
-    // Refusal 1 with the first damage.
-    pub fn damaged(start: usize, length: usize, cause: u32) -> Checked
-        ensures { told_checked result ≡ 1 ∷ start ∷ length ∷ cause ∷ [] }
-    {
-        Checked::Refused(Refusal::Damaged {
-            start,
-            length,
-            cause,
-        })
-    }
-}
-
-// The answer of a call that writes: how many places were written from the start of the output.
-#[derive(Clone, Copy)]
-pub enum Written {
-    Count(usize),
-    Refused(Refusal),
 }
