@@ -6,7 +6,7 @@ ghost use Rattle.terms.specs.Form.{is_scalar, point_says};
 ghost use Rattle.terms.specs.Told.{told_first, first_says, told_checked};
 ghost use Rattle.code_points.specs.Points.{points, code_points, points_say};
 
-use terms::{Checked, Decoder, First, Point, Refusal};
+use terms::{Cause, Decoder, First, Point, Refusal};
 
 // Is a number a scalar value?
 fn is_scalar(c: u32) -> bool
@@ -25,7 +25,7 @@ pub fn segment(text: &[u32]) -> First
     if is_scalar(text[0]) {
         return First::Whole(1);
     }
-    First::Damage(1, First::FOREIGN)
+    First::Damage(1, Cause::Foreign)
 }
 
 // The code point that stands first in a text.
@@ -50,19 +50,19 @@ pub fn point(text: &[u32]) -> Point
 }
 
 // Is every number of a text a scalar value? If not, the position of the first that is none is told.
-pub fn check(text: &[u32]) -> Checked
+pub fn check(text: &[u32]) -> Result<(), Refusal>
     ensures { told_checked result ≡ points_say text.now }
 {
     if Decoder::LIMIT < text.len() {
-        return Checked::Refused(Refusal::OverLimit);
+        return Err(Refusal::OverLimit);
     }
     let mut at: usize = 0;
     loop {
         match segment(&text[at..]) {
-            First::Nothing => return Checked::WellFormed,
+            First::Nothing => return Ok(()),
             First::Whole(n) => at += n,
-            First::Damage(_, _) => return Checked::Refused(Refusal::NoScalar { position: at }),
-            First::Begun(_) => return Checked::Refused(Refusal::NoScalar { position: at }),
+            First::Damage(_, _) => return Err(Refusal::NoScalar { position: at }),
+            First::Begun(_) => return Err(Refusal::NoScalar { position: at }),
         }
     }
 }

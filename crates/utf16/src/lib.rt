@@ -8,7 +8,7 @@ ghost use Rattle.utf16.specs.Units.{units};
 ghost use Rattle.utf16.specs.Scalar.{utf16};
 ghost use Rattle.utf16.specs.Alone.{alone, all_alone};
 
-use terms::{First, Point};
+use terms::{Cause, First, Point};
 
 // The segment that stands first in a text.
 pub fn segment(text: &[u16]) -> First
@@ -25,17 +25,17 @@ pub fn segment(text: &[u16]) -> First
         return First::Whole(1);
     }
     if 0xDBFF < x {
-        return First::Damage(1, First::STRAY);
+        return First::Damage(1, Cause::Stray);
     }
     if text.len() < 2 {
         return First::Begun(1);
     }
     let y = text[1];
     if y < 0xDC00 {
-        return First::Damage(1, First::STOPPED);
+        return First::Damage(1, Cause::Stopped);
     }
     if 0xDFFF < y {
-        return First::Damage(1, First::STOPPED);
+        return First::Damage(1, Cause::Stopped);
     }
     First::Whole(2)
 }

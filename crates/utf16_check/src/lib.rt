@@ -7,7 +7,7 @@ ghost use Rattle.terms.specs.Strict.{check_says};
 ghost use Rattle.utf16.specs.Units.{units};
 ghost use Rattle.utf16_check.specs.Inside.Paired.{is_first, is_second, Paired, WholeTo};
 
-use terms::{Checked, Decoder, First, Refusal};
+use terms::{Cause, Decoder, First, Refusal};
 
 // A unit as a number of places.
 fn wide_place(x: u16) -> usize
@@ -73,11 +73,11 @@ fn whole_blocks(text: &[u16]) -> usize
 }
 
 // Is a text well-formed? If not, its first damage is told.
-pub fn check(text: &[u16]) -> Checked
+pub fn check(text: &[u16]) -> Result<(), Refusal>
     ensures { told_checked result ≡ check_says units text.now }
 {
     if Decoder::LIMIT < text.len() {
-        return Checked::Refused(Refusal::OverLimit);
+        return Err(Refusal::OverLimit);
     }
     let mut at: usize = 0;
     let mut block: usize = 0;
@@ -88,10 +88,10 @@ pub fn check(text: &[u16]) -> Checked
             block = at + 128;
         }
         match utf16::segment(&text[at..]) {
-            First::Nothing => return Checked::WellFormed,
+            First::Nothing => return Ok(()),
             First::Whole(n) => at += n,
-            First::Damage(n, cause) => return Checked::damaged(at, n, cause),
-            First::Begun(n) => return Checked::damaged(at, n, First::ENDED),
+            First::Damage(n, cause) => return Err(Refusal::damaged(at, n, cause)),
+            First::Begun(n) => return Err(Refusal::damaged(at, n, Cause::Ended)),
         }
     }
 }

@@ -9,8 +9,11 @@ use lib.Seq.{drop-cons}
 use native.Mathlib.Numerals.{add-one}
 use native.Mathlib.Omega.{arith}
 use Rattle.theory.specs.Reader.{Look}
-use Rattle.theory.specs.Table.{within, stopped, Kind, is_damage, cause_of, want, wanted_behind}
+use Rattle.theory.specs.Table.{within, Kind, is_damage, cause_of, want, wanted_behind}
 use Rattle.terms.specs.Told.{told_first, bit, look_says, first_says}
+use Rattle.terms.specs.Told.{number_of}
+use Rattle.terms.specs.declared.Cause.{Cause}
+use Rattle.terms.specs.declared.Cause.TheVariants.{Stopped}
 use Rattle.terms.specs.declared.First.TheVariants.{Whole, Damage, Begun}
 use Rattle.terms.proofs.WalkBySegments.{says-look}
 use Rattle.utf8.specs.Classes.{class_in, rows_of_classes, lone_class, by_classes}
@@ -34,10 +37,10 @@ module _ (table text : List ℕ) where
   module _ (some-there : 0 < length text) (r : Lead)
       (b : (wanted_behind rows_of_classes (class (get_or text 0 0)) ≡ wanted (class (get_or text 0 0)) r)
       × (lone_class (class (get_or text 0 0)) ≡ cause_in (class (get_or text 0 0)) r)) where
-    pub class-alone : (cause : ℕ) → r ≡ Alone cause → told_first (Damage 1 cause) ≡ first_says (by_classes table) text
+    pub class-alone : (cause : Cause) → r ≡ Alone cause → told_first (Damage 1 cause) ≡ first_says (by_classes table) text
     unfolding by_classes
     class-alone cause e =
-        let d : lone_class (class (get_or text 0 0)) ≡ cause = b.1 ∙ ap (cause_in (class (get_or text 0 0))) e in
+        let d : lone_class (class (get_or text 0 0)) ≡ number_of cause = b.1 ∙ ap (cause_in (class (get_or text 0 0))) e in
         sym (says-look (by_classes table) text some-there ∙ rw (b.0, e, d))
 
     pub class-begun : (more : ℕ) → r ≡ Begins more → first_says (by_classes table) text ≡ look_says (left more (class (get_or text 0 0)) 1)
@@ -71,7 +74,7 @@ module _ (table text : List ℕ) where
 
         -- another byte stops it
         pub follow-stopped : n < length text → within (wanted_next lead) (class (get_or text n 0)) ≡ false
-            → told_first (Damage n stopped) ≡ look_says (left more first 1)
+            → told_first (Damage n Stopped) ≡ look_says (left more first 1)
         follow-stopped k e = rw (same_here, drop-cons text n 0 k, e, add-zero)
 
         -- the byte is as wanted

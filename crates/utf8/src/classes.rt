@@ -5,12 +5,12 @@ ghost use Rattle.terms.specs.Told.{told_first, look_says, first_says};
 ghost use Rattle.utf8.specs.Classes.{class_in, any_later, rows_of_classes, lone_class, by_classes};
 ghost use Rattle.utf8.specs.Inside.Lead.{wanted_next, laters, wanted, cause_in};
 
-use terms::First;
+use terms::{Cause, First};
 
 // What a class tells of a first byte: no sequence begins with it, and the cause of that; or one does, and wants so many bytes more.
 #[derive(Clone, Copy)]
 pub enum Lead {
-    Alone(u32),
+    Alone(Cause),
     Begins(usize),
 }
 
@@ -26,9 +26,9 @@ fn lead_of(class: u8) -> Lead
 {
     match class {
         0 => Lead::Begins(0),
-        1 => Lead::Alone(First::STRAY),
-        2 => Lead::Alone(First::STRAY),
-        3 => Lead::Alone(First::STRAY),
+        1 => Lead::Alone(Cause::Stray),
+        2 => Lead::Alone(Cause::Stray),
+        3 => Lead::Alone(Cause::Stray),
         5 => Lead::Begins(1),
         6 => Lead::Begins(2),
         7 => Lead::Begins(2),
@@ -36,7 +36,7 @@ fn lead_of(class: u8) -> Lead
         9 => Lead::Begins(3),
         10 => Lead::Begins(3),
         11 => Lead::Begins(3),
-        _ => Lead::Alone(First::FOREIGN),
+        _ => Lead::Alone(Cause::Foreign),
     }
 }
 
@@ -83,7 +83,7 @@ fn follow(text: &[u8], classes: &[u8; 256], class: u8, more: usize) -> First
             return First::Begun(n);
         }
         if !goes_on(lead, class_in(classes, text[n])) {
-            return First::Damage(n, First::STOPPED);
+            return First::Damage(n, Cause::Stopped);
         }
         lead = 5;
         n += 1;

@@ -7,7 +7,7 @@ ghost use Rattle.terms.specs.Strict.{check_says};
 ghost use Rattle.utf8.specs.Bytes.{bytes};
 ghost use Rattle.utf8_check.specs.Run.{whole_run};
 
-use terms::{Checked, Decoder, Refusal};
+use terms::{Decoder, Refusal};
 
 mod pace;
 
@@ -22,16 +22,19 @@ pub fn whole_run(text: &[u8]) -> usize
 }
 
 // Is a text well-formed? If not, its first damage is told.
-pub fn check(text: &[u8]) -> Checked
+pub fn check(text: &[u8]) -> Result<(), Refusal>
     ensures { told_checked result ≡ check_says bytes text.now }
 {
     if Decoder::LIMIT < text.len() {
-        return Checked::Refused(Refusal::OverLimit);
+        return Err(Refusal::OverLimit);
     }
     let start = whole_run(text);
     if start == text.len() {
-        return Checked::WellFormed;
+        return Ok(());
     }
     let damage = utf8::segment(&text[start..]);
-    Checked::damaged(start, damage.size(), damage.cause())
+    match damage.cause() {
+        Some(cause) => Err(Refusal::damaged(start, damage.size(), cause)),
+        None => Ok(()),
+    }
 }

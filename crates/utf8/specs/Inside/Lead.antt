@@ -2,6 +2,7 @@
 use Rattle.std.specs.Prelude.{ℕ, zero, suc, cond, List, [], ◌∷◌, eqb}
 use Rattle.std.proofs.Math.Option.{Option, none, some}
 use Rattle.theory.specs.Table.{Range, ◌to◌}
+use Rattle.terms.specs.Told.{number_of}
 use Rattle.utf8.specs.Classes.{any_later, lone_class}
 use Rattle.utf8.specs.declared.classes.Lead.{Lead}
 use Rattle.utf8.specs.declared.classes.Lead.TheVariants.{Alone, Begins}
@@ -21,5 +22,5 @@ wanted class (Begins more) = some (laters more class)
 
 -- the cause that it tells of a byte which begins none; of another nobody asks
 abbrev pub cause_in : ℕ → Lead → ℕ
-cause_in class (Alone cause) = cause
+cause_in class (Alone cause) = number_of cause
 cause_in class (Begins more) = lone_class class
