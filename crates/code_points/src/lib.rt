@@ -2,7 +2,7 @@
 #![tactic(auto)]
 
 ghost use Rattle.std.specs.Prelude.{◌≡◌, [], ◌∷◌};
-ghost use Rattle.terms.specs.Form.{is_scalar, point_says};
+ghost use Rattle.terms.specs.Form.{is_scalar, first_point};
 ghost use Rattle.terms.specs.Told.{told_first, first_says, told_checked};
 ghost use Rattle.code_points.specs.Points.{points, code_points, points_say};
 
@@ -28,24 +28,24 @@ pub fn segment(text: &[u32]) -> First
     First::Damage(1, Cause::Foreign)
 }
 
-// The code point that stands first in a text.
-pub fn point(text: &[u32]) -> Point
-    ensures { result.number ∷ result.size ∷ [] ≡ point_says code_points text.now }
+// The code point that stands first in a text, if there is one.
+pub fn point(text: &[u32]) -> Option<Point>
+    ensures { result ≡ first_point code_points text.now }
 {
     match segment(text) {
-        First::Nothing => Point { number: 0, size: 0 },
-        First::Whole(n) => Point {
+        First::Nothing => None,
+        First::Whole(n) => Some(Point {
             number: text[0],
             size: n,
-        },
-        First::Damage(n, _) => Point {
+        }),
+        First::Damage(n, _) => Some(Point {
             number: 0xFFFD,
             size: n,
-        },
-        First::Begun(n) => Point {
+        }),
+        First::Begun(n) => Some(Point {
             number: 0xFFFD,
             size: n,
-        },
+        }),
     }
 }
 

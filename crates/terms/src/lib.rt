@@ -107,9 +107,8 @@ impl First {
     }
 }
 
-// The code point that stands first in a text, U+FFFD for damage, and how many elements it takes; both are 0 where the text is
-// empty.
-#[derive(Clone, Copy)]
+// The code point that stands first in a text, U+FFFD for damage, and how many elements it takes.
+#[derive(Clone, Copy, PartialEq, Eq)]
 pub struct Point {
     pub number: u32,
     pub size: usize,

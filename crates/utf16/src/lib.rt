@@ -3,7 +3,7 @@
 
 ghost use Rattle.std.specs.Prelude.{◌≡◌, not, [], ◌∷◌};
 ghost use Rattle.terms.specs.Told.{bit, told_first, first_says};
-ghost use Rattle.terms.specs.Form.{point_says};
+ghost use Rattle.terms.specs.Form.{first_point};
 ghost use Rattle.utf16.specs.Units.{units};
 ghost use Rattle.utf16.specs.Scalar.{utf16};
 ghost use Rattle.utf16.specs.Alone.{alone, all_alone};
@@ -46,31 +46,31 @@ fn wide(x: u16) -> u32
     x as u32
 }
 
-// The code point that stands first in a text.
-pub fn point(text: &[u16]) -> Point
-    ensures { result.number ∷ result.size ∷ [] ≡ point_says utf16 text.now }
+// The code point that stands first in a text, if there is one.
+pub fn point(text: &[u16]) -> Option<Point>
+    ensures { result ≡ first_point utf16 text.now }
 {
     match segment(text) {
-        First::Nothing => Point { number: 0, size: 0 },
+        First::Nothing => None,
         First::Whole(n) => {
             let x = wide(text[0]);
             if n == 1 {
-                return Point { number: x, size: n };
+                return Some(Point { number: x, size: n });
             }
             let y = wide(text[1]);
-            Point {
+            Some(Point {
                 number: 0x10000 + (x - 0xD800) * 0x400 + (y - 0xDC00),
                 size: n,
-            }
+            })
         }
-        First::Damage(n, _) => Point {
+        First::Damage(n, _) => Some(Point {
             number: 0xFFFD,
             size: n,
-        },
-        First::Begun(n) => Point {
+        }),
+        First::Begun(n) => Some(Point {
             number: 0xFFFD,
             size: n,
-        },
+        }),
     }
 }
 

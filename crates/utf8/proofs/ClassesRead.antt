@@ -10,7 +10,9 @@ use native.Mathlib.Omega.{arith}
 use Rattle.theory.specs.Table.{Range, ◌to◌, within, among, want, wanted_behind}
 use Rattle.theory.proofs.Cases.{under}
 use Rattle.theory.proofs.TableDivides.{in_yes, in_under, in_over}
-use Rattle.terms.specs.Form.{point_says}
+use Rattle.std.specs.Prelude.{Option}
+use Rattle.terms.specs.Form.{first_point, point_says}
+use Rattle.terms.specs.declared.Point.{Point}
 use Rattle.terms.specs.Told.{first_says}
 use Rattle.utf8.specs.Bytes.{row, next, rows, bytes}
 use Rattle.utf8.specs.Classes.{classes, in_class, unclassed, class_in, any_later, rows_of_classes, by_classes}
@@ -298,3 +300,7 @@ module _ (array text : List ℕ) {told : List ℕ} where
   pub point-by-array : told ≡ point_says (utf8_by array) text → array ≡ table → told ≡ point_says utf8 text
   point-by-array t e =
       t ∙ ap (λ a. point_says (utf8_by a) text) e ∙ ap (λ look. point_says (record { look = look; value = number; write = sequence }) text) by-table
+
+pub point-read-by-array : (array text : List ℕ) {p : Option Point} → p ≡ first_point (utf8_by array) text → array ≡ table → p ≡ first_point utf8 text
+point-read-by-array array text t e =
+    t ∙ ap (λ a. first_point (utf8_by a) text) e ∙ ap (λ look. first_point (record { look = look; value = number; write = sequence }) text) by-table

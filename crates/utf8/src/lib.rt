@@ -3,7 +3,7 @@
 
 ghost use Rattle.std.specs.Prelude.{◌≡◌, ◌≤◌, ◌<◌, [], ◌∷◌, length, take};
 ghost use Rattle.terms.specs.Told.{told_first, first_says};
-ghost use Rattle.terms.specs.Form.{point_says};
+ghost use Rattle.terms.specs.Form.{first_point};
 ghost use Rattle.utf8.specs.Bytes.{bytes};
 ghost use Rattle.utf8.specs.Scalar.{number, utf8, utf8_by};
 
@@ -61,30 +61,30 @@ fn number_of(text: &[u8], n: usize) -> u32
     ((a % 0x08 * 0x40 + b) * 0x40 + c) * 0x40 + d
 }
 
-// The code point that stands first in a text, by any table of classes.
-pub fn point_by(text: &[u8], classes: &[u8; 256]) -> Point
-    ensures { result.number ∷ result.size ∷ [] ≡ point_says (utf8_by classes.now) text.now }
+// The code point that stands first in a text, if there is one, by any table of classes.
+pub fn point_by(text: &[u8], classes: &[u8; 256]) -> Option<Point>
+    ensures { result ≡ first_point (utf8_by classes.now) text.now }
 {
     match segment_by(text, classes) {
-        First::Nothing => Point { number: 0, size: 0 },
-        First::Whole(n) => Point {
+        First::Nothing => None,
+        First::Whole(n) => Some(Point {
             number: number_of(text, n),
             size: n,
-        },
-        First::Damage(n, _) => Point {
+        }),
+        First::Damage(n, _) => Some(Point {
             number: 0xFFFD,
             size: n,
-        },
-        First::Begun(n) => Point {
+        }),
+        First::Begun(n) => Some(Point {
             number: 0xFFFD,
             size: n,
-        },
+        }),
     }
 }
 
-// The code point that stands first in a text.
-pub fn point(text: &[u8]) -> Point
-    ensures { result.number ∷ result.size ∷ [] ≡ point_says utf8 text.now }
+// The code point that stands first in a text, if there is one.
+pub fn point(text: &[u8]) -> Option<Point>
+    ensures { result ≡ first_point utf8 text.now }
 {
     point_by(text, &CLASSES)
 }
