@@ -55,8 +55,7 @@ fn count_part(text: &[u16]) -> Part
     requires { (0 < length text.now) × (length text.now ≤ limit) }
     ensures { Passes utf16 utf8 text.now result.read result.places }
 {
-    let p = convert_utf16_blocks::count_block(text);
-    if 0 < p.read {
+    if let Some(p) = convert_utf16_blocks::count_block(text) {
         return p;
     }
     let size = text.len();
@@ -132,8 +131,7 @@ fn write_sixteen(text: &[u16], out: &mut [u8]) -> Part
     requires { (0 < length text.now) × (length (converted utf16 utf8 text.now) ≤ length out.old) }
     ensures { PassesTo utf16 utf8 text.now out.old out.new result.read result.places }
 {
-    let p = convert_utf16_blocks::put_sixteen(text, out);
-    if 0 < p.read {
+    if let Some(p) = convert_utf16_blocks::put_sixteen(text, out) {
         return p;
     }
     let size = text.len();
@@ -148,8 +146,7 @@ fn write_part(text: &[u16], out: &mut [u8]) -> Part
     requires { (0 < length text.now) × (length (converted utf16 utf8 text.now) ≤ length out.old) }
     ensures { PassesTo utf16 utf8 text.now out.old out.new result.read result.places }
 {
-    let p = convert_utf16_blocks::put_block(text, out);
-    if 0 < p.read {
+    if let Some(p) = convert_utf16_blocks::put_block(text, out) {
         return p;
     }
     write_sixteen(text, out)

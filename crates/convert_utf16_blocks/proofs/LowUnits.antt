@@ -3,7 +3,7 @@ use mathlib.Core.Path.{◌≡◌, refl, sym, ap, ◌∙◌}
 use Prim.Native.Nat.{ℕ, zero, suc, ◌+◌, ◌≤◌, ◌<◌}
 use native.Mathlib.Nat.{add-zero}
 use native.Mathlib.Numerals.{add-one}
-use mathlib.Core.Bool.{Bool, true, false, ◌&&◌, and-true, and_assoc}
+use mathlib.Core.Bool.{Bool, true, ◌&&◌, and-true, and_assoc}
 use mathlib.Core.List.{List, [], ◌∷◌, ◌++◌}
 use lib.ListN.{length, get_or, take, drop, take-append-drop}
 use lib.Seq.{take_all, length-take-le}
@@ -16,7 +16,6 @@ use Rattle.utf8.proofs.FaithfulForm.{is_one}
 use Rattle.utf16.specs.Alone.{all_alone}
 use Rattle.convert_utf16_blocks.specs.Block.{opening, within, block, roomy, low, sixteen, bytes_of, Counts, Puts}
 use Rattle.convert_utf16_blocks.specs.Inside.Places.{Under, Squeezed}
-use Rattle.convert_utf16_blocks.specs.declared.Part.{Part}
 
 -- ---- units below 0x80
 
@@ -59,15 +58,6 @@ low-next xs k bits h e = or_low bits (get_or xs k 0) ∙ rw (add-one, low-suc xs
 
 -- ---- the units that a text begins with
 
-abbrev none : Part
-none = record { read = 0; places = 0 }
-
-pub counts_none : (units : List ℕ) → units ≡ [] → Counts units none
-counts_none units e = rw e (record { read_is = refl; places_is = refl })
-
-pub puts_none : (units out : List ℕ) → units ≡ [] → Puts units out out none
-puts_none units out e = record { counts = counts_none units e; output = rw e }
-
 pub counts_low : (units : List ℕ) (n : ℕ) → n ≡ length units → Under units 0x7F → Counts units (record { read = n; places = n })
 counts_low units n l u = record { read_is = l; places_is = l ∙ sym (ap length (low-bytes units u)) }
 
@@ -85,26 +75,11 @@ puts_mixed units out out' l n s =
     let k : drop n out' ≡ drop n out = rw add-zero at s.kept in
     record { counts = record { read_is = l; places_is = c }; output = rw (← c) (sym (take-append-drop n out') ∙ rw (f, k)) }
 
-module _ (test : List ℕ → Bool) (n : ℕ) (text : List ℕ) where
-  pub opening-short : length text < n → opening test n text ≡ []
-  opening-short h = rw (lt-ltb (length text) n h)
+pub opening-all : (test : List ℕ → Bool) (n : ℕ) (text units : List ℕ) → n ≤ length text → units ≡ take n text → test units ≡ true → opening test n text ≡ units
+opening-all test n text units h e p = rw (le-ltb (length text) n h, ← e, p)
 
-  module _ (h : n ≤ length text) where
-    pub opening-mixed : test (take n text) ≡ false → opening test n text ≡ []
-    opening-mixed e = rw (le-ltb (length text) n h, e)
-
-    pub opening-all : test (take n text) ≡ true → opening test n text ≡ take n text
-    opening-all e = rw (le-ltb (length text) n h, e)
-
-module _ (places room : ℕ) (units : List ℕ) where
-  pub within_none : room < places → within places room units ≡ []
-  within_none h = rw (lt-ltb room places h)
-
-  pub within-empty : units ≡ [] → within places room units ≡ []
-  within-empty e = split (ltb room places) (λ f. rw f) (λ f. rw (f, e))
-
-  pub within_all : places ≤ room → within places room units ≡ units
-  within_all h = rw (le-ltb room places h)
+pub within_all : (places room : ℕ) (units : List ℕ) → places ≤ room → within places room units ≡ units
+within_all places room units h = rw (le-ltb room places h)
 
 -- WHATEVER IT IS: it is alone, and the text begins with it
 module _ (text : List ℕ) where

@@ -1,8 +1,10 @@
--- Two parts that the promise about a block allows are equal, and they leave the same.
-use mathlib.Core.Path.{◌≡◌, sym, ◌∙◌}
-use Prim.Native.Nat.{ℕ}
+-- Two answers that the promise about a block allows are equal, and they leave the same.
+use mathlib.Core.Path.{◌≡◌, refl, sym, ap, ◌∙◌}
+use Prim.Native.Nat.{ℕ, ◌<◌}
 use mathlib.Core.List.{List}
-use Rattle.convert_utf16_blocks.specs.Block.{Counts, Puts}
+use native.Mathlib.Omega.{arith}
+use Rattle.std.proofs.Common.{Option, Some, None, unwrap_or, IfSome}
+use Rattle.convert_utf16_blocks.specs.Block.{no_part, Counts, Puts}
 use Rattle.convert_utf16_blocks.specs.declared.Part.{Part}
 
 pub counts_once : {units : List ℕ} {q r : Part} → Counts units q → Counts units r → q ≡ r
@@ -13,3 +15,18 @@ counts_once f g =
 
 pub puts_once : {units out out' out'' : List ℕ} {q r : Part} → Puts units out out' q → Puts units out out'' r → (q ≡ r) × (out' ≡ out'')
 puts_once f g = (counts_once f.counts g.counts, f.output ∙ sym g.output)
+
+-- a part that reads some units is not none
+some_once : (q r : Option Part) → IfSome q (λ p. 0 < p.read) → IfSome r (λ p. 0 < p.read) → unwrap_or q no_part ≡ unwrap_or r no_part → q ≡ r
+some_once None None a b e = refl
+some_once None (Some r) a b e = let z : 0 ≡ r.read = ap (λ (p : Part). p.read) e in absurd (omega arith)
+some_once (Some q) None a b e = let z : q.read ≡ 0 = ap (λ (p : Part). p.read) e in absurd (omega arith)
+some_once (Some q) (Some r) a b e = ap Some e
+
+module _ {units : List ℕ} {q r : Option Part} (a : IfSome q (λ p. 0 < p.read)) (b : IfSome r (λ p. 0 < p.read)) where
+  pub counted_once : Counts units (unwrap_or q no_part) → Counts units (unwrap_or r no_part) → q ≡ r
+  counted_once f g = some_once q r a b (counts_once f g)
+
+  pub put_once : {out out' out'' : List ℕ} → Puts units out out' (unwrap_or q no_part) → Puts units out out'' (unwrap_or r no_part)
+      → (q ≡ r) × (out' ≡ out'')
+  put_once f g = (counted_once f.counts g.counts, f.output ∙ sym g.output)

@@ -34,6 +34,10 @@ sixteen room text = within 16 room (opening low 16 text)
 abbrev pub bytes_of : List ℕ → List ℕ
 bytes_of units = written sequence units
 
+-- what no part tells: no unit was read
+abbrev pub no_part : Part
+no_part = record { read = 0; places = 0 }
+
 -- these units were read, and take so many places
 pub record Counts (units : List ℕ) (r : Part) : Type 0 where
   pub read_is : r.read ≡ length units

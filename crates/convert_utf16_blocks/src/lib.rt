@@ -1,9 +1,9 @@
 // Units that stand alone as UTF-8 bytes, a block of 128 at a time: how many bytes they take, and the bytes at the start of an output.
 #![tactic(auto)]
 
-ghost use Rattle.std.specs.Prelude.{◌≡◌, ◌++◌, ◌%◌, ◌≤◌, length, drop};
+ghost use Rattle.std.specs.Prelude.{◌≡◌, ◌++◌, ◌%◌, ◌<◌, ◌≤◌, length, drop, unwrap_or, IfSome};
 ghost use Rattle.utf8.specs.Scalar.{sequence, later};
-ghost use Rattle.convert_utf16_blocks.specs.Block.{block, roomy, bytes_of, Counts, Puts};
+ghost use Rattle.convert_utf16_blocks.specs.Block.{block, roomy, bytes_of, no_part, Counts, Puts};
 ghost use Rattle.convert_utf16_blocks.specs.Inside.Places.{size_of, first_byte, second_byte, Under, Mapped, Squeezed};
 
 mod sixteen;
@@ -237,52 +237,48 @@ fn put_low(units: &[u16], out: &mut [u8])
     }
 }
 
-// How many bytes the first block of a text takes, if its units stand alone; else no unit is read.
-pub fn count_block(text: &[u16]) -> Part
-    ensures { Counts (block text.now) result }
+// How many bytes the first block of a text takes, if its units stand alone.
+pub fn count_block(text: &[u16]) -> Option<Part>
+    ensures told { Counts (block text.now) (unwrap_or result no_part) }
+    ensures some { IfSome result (λ p. 0 < p.read) }
 {
-    if text.len() < 128 {
-        return Part { read: 0, places: 0 };
-    }
-    let units = &text[..128];
+    let units = text.get(..128)?;
     if top(units) < 0x80 {
-        return Part {
+        return Some(Part {
             read: 128,
             places: 128,
-        };
+        });
     }
     if !utf16::are_alone(units) {
-        return Part { read: 0, places: 0 };
+        return None;
     }
-    Part {
+    Some(Part {
         read: 128,
-        places: wide(count(units)),
-    }
+        places: usize::from(count(units)),
+    })
 }
 
-// The bytes of the first block of a text, if its units stand alone and the output is long enough for any block; else no unit is read.
-pub fn put_block(text: &[u16], out: &mut [u8]) -> Part
-    ensures { Puts (roomy (length out.old) text.now) out.old out.new result }
+// The bytes of the first block of a text, if its units stand alone and the output is long enough for any block.
+pub fn put_block(text: &[u16], out: &mut [u8]) -> Option<Part>
+    ensures told { Puts (roomy (length out.old) text.now) out.old out.new (unwrap_or result no_part) }
+    ensures some { IfSome result (λ p. 0 < p.read) }
 {
-    if text.len() < 128 {
-        return Part { read: 0, places: 0 };
-    }
     if out.len() < 384 {
-        return Part { read: 0, places: 0 };
+        return None;
     }
-    let units = &text[..128];
+    let units = text.get(..128)?;
     if top(units) < 0x80 {
         put_low(units, out);
-        return Part {
+        return Some(Part {
             read: 128,
             places: 128,
-        };
+        });
     }
     if !utf16::are_alone(units) {
-        return Part { read: 0, places: 0 };
+        return None;
     }
-    Part {
+    Some(Part {
         read: 128,
         places: put_mixed(units, out),
-    }
+    })
 }

@@ -1,6 +1,6 @@
 // Sixteen units below 0x80 as bytes, which are themselves, at the start of an output.
-ghost use Rattle.std.specs.Prelude.{◌≡◌, ◌++◌, ◌≤◌, length, drop};
-ghost use Rattle.convert_utf16_blocks.specs.Block.{low, sixteen, Puts};
+ghost use Rattle.std.specs.Prelude.{◌≡◌, ◌++◌, ◌<◌, ◌≤◌, length, drop, unwrap_or, IfSome};
+ghost use Rattle.convert_utf16_blocks.specs.Block.{low, sixteen, no_part, Puts};
 ghost use Rattle.convert_utf16_blocks.specs.Inside.Places.{Under};
 
 use crate::Part;
@@ -43,23 +43,21 @@ fn put_row(units: &[u16], out: &mut [u8])
     }
 }
 
-// The bytes of the first 16 units of a text, if they are below 0x80 and the output has a place for each; else no unit is read.
-pub fn put_sixteen(text: &[u16], out: &mut [u8]) -> Part
-    ensures { Puts (sixteen (length out.old) text.now) out.old out.new result }
+// The bytes of the first 16 units of a text, if they are below 0x80 and the output has a place for each.
+pub fn put_sixteen(text: &[u16], out: &mut [u8]) -> Option<Part>
+    ensures told { Puts (sixteen (length out.old) text.now) out.old out.new (unwrap_or result no_part) }
+    ensures some { IfSome result (λ p. 0 < p.read) }
 {
-    if text.len() < 16 {
-        return Part { read: 0, places: 0 };
-    }
     if out.len() < 16 {
-        return Part { read: 0, places: 0 };
+        return None;
     }
-    let units = &text[..16];
+    let units = text.get(..16)?;
     if !are_low(units) {
-        return Part { read: 0, places: 0 };
+        return None;
     }
     put_row(units, out);
-    Part {
+    Some(Part {
         read: 16,
         places: 16,
-    }
+    })
 }

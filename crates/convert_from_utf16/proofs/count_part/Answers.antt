@@ -4,8 +4,8 @@ use Rattle.convert_utf16_blocks.proofs.LowUnits.{block-is}
 use Rattle.convert_from_utf16.proofs.BlocksArePasses.{block-passes}
 use Rattle.convert_from_utf16.proofs.count_part.Goals as goal
 
-pub returns-then-p-gt0 : goal.returns-then-p-gt0
-returns-then-p-gt0 c =
+pub returns-in-Some : goal.returns-in-Some
+returns-in-Some c =
     let t = c.args.text.now in
-    let n = c.count_block-p.ensures in
-    block-passes t (block t) (block-is t).0 (block-is t).1 _ _ n.read_is n.places_is c.if-p-gt0.true
+    let n = c.in-Some.ensures.told in
+    block-passes t (block t) (block-is t).0 (block-is t).1 _ _ n.read_is n.places_is c.in-Some.ensures.some
