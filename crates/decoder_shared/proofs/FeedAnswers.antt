@@ -17,7 +17,7 @@ use Rattle.terms.specs.Writing.{roomed, output_of, Writes}
 use Rattle.terms.specs.declared.First.{First}
 use Rattle.terms.specs.declared.First.TheVariants.{Nothing, Whole, Damage, Begun}
 use Rattle.terms.specs.declared.Refusal.{Refusal}
-use Rattle.terms.specs.declared.Written.TheVariants.{Count, Refused}
+use Rattle.std.specs.Prelude.{Ok, Err}
 use Rattle.terms.proofs.ToldBack.{no_zero}
 use Rattle.decoder_shared.specs.Decoding.{Decoding, numbers, opened, fed, closed}
 use Rattle.decoder_shared.specs.Checks.{admit_says}
@@ -113,7 +113,7 @@ module _ {S : Type 0} (D : Decoding S) where
       output-is : output_of (roomed (length out) form) form out ≡ output_of (roomed (length out) after.kept.out) after.kept.out out
       output-is = rw (form-is, e)
 
-      pub answers-refused : (why : Refusal) → Writes (roomed (length out) form) form out out' (Refused why)
+      pub answers-refused : (why : Refusal) → Writes (roomed (length out) form) form out out' (Err why)
           → Answers D d taken after out list out' list (told_refusal why) d
       answers-refused why w =
           let says : told_refusal why ≡ roomed (length out) after.kept.out = w.answer ∙ says_is in
@@ -124,7 +124,7 @@ module _ {S : Type 0} (D : Decoding S) where
             entries = rw (← says, no_zero why);
           }
 
-      pub answers-granted : (n : ℕ) → Writes (roomed (length out) form) form out out' (Count n)
+      pub answers-granted : (n : ℕ) → Writes (roomed (length out) form) form out out' (Ok n)
           → (m : Log) → m ≡ tallied 0 (tallied_as 0 seg begins) done → (list' : List ℕ) → list' ≡ (tallied room (tallied_as room seg begins) done).list
           → (next : S) → next ≡ D.state (record {
             left = (parts D.look rest).left;

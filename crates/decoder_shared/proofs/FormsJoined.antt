@@ -14,8 +14,7 @@ use Rattle.terms.specs.Told.{told_refusal}
 use Rattle.terms.specs.Writing.{roomed, repair_says, Writes}
 use Rattle.terms.specs.declared.Refusal.{Refusal}
 use Rattle.terms.specs.declared.Refusal.TheVariants.{NoRoom}
-use Rattle.terms.specs.declared.Written.{Written}
-use Rattle.terms.specs.declared.Written.TheVariants.{Count, Refused}
+use Rattle.std.specs.Prelude.{Result, Ok, Err}
 use Rattle.terms.proofs.AnswersWritten.{roomed-short, roomed-done, repair-count}
 use Rattle.terms.proofs.ToldBack.{no_zero}
 use Rattle.terms.proofs.WalkBySegments.{part_is}
@@ -37,7 +36,7 @@ module _ (first second out : List ℕ) where
   both = first ++ second
 
   -- there is no first one
-  pub both-alone : (text : List ℕ) → length text ≤ limit → first ≡ [] → (out' : List ℕ) (q : Written)
+  pub both-alone : (text : List ℕ) → length text ≤ limit → first ≡ [] → (out' : List ℕ) (q : Result ℕ Refusal)
       → Writes (repair_says (length out) text second) second out out' q → Writes (roomed (length out) both) both out out' q
   both-alone text h e out' q w =
       let same : repair_says (length out) text second ≡ roomed (length out) second = rw (le-ltb limit (length text) h) in
@@ -48,7 +47,7 @@ module _ (first second out : List ℕ) where
     sum_is m k = omega (arith, e, k, length-append first second)
 
     -- there is no room for the first one
-    pub both-short : length out < n → (m : ℕ) → m ≡ length second → Writes (roomed (length out) both) both out out (Refused (NoRoom (n + m)))
+    pub both-short : length out < n → (m : ℕ) → m ≡ length second → Writes (roomed (length out) both) both out out (Err (NoRoom (n + m)))
     both-short h m k = roomed-short both out (n + m) (sum_is m k) (omega (arith, h))
 
     -- or there is, and the second one is written behind it
@@ -56,11 +55,11 @@ module _ (first second out : List ℕ) where
       lent-long : n + length (lent out n) ≡ length out
       lent-long = rw (part_is out n) (omega (arith, h, length-drop n out))
 
-      abbrev Second : Written → Type 0
+      abbrev Second : Result ℕ Refusal → Type 0
       Second = Writes (repair_says (length (lent out n)) text second) second (lent out n) ys
 
-      pub both-refused : (why : Refusal) → Second (Refused why) → (m : ℕ) → m ≡ get_or (told_refusal why) 1 0
-          → Writes (roomed (length out) both) both out (back out n ys) (Refused (NoRoom (n + m)))
+      pub both-refused : (why : Refusal) → Second (Err why) → (m : ℕ) → m ≡ get_or (told_refusal why) 1 0
+          → Writes (roomed (length out) both) both out (back out n ys) (Err (NoRoom (n + m)))
       both-refused why w m k =
           let s = needed_is text second (length (lent out n)) small why w.answer in
           let y : ys ≡ lent out n = w.output ∙ rw (← w.answer, no_zero why) in
@@ -68,11 +67,11 @@ module _ (first second out : List ℕ) where
           rw o (roomed-short both out (n + m) (sum_is m (k ∙ s.0)) (omega (arith, s.1, k ∙ s.0, lent-long)))
 
       -- and then the first
-      pub both-done : (k : ℕ) → Second (Count k) → (head out' : List ℕ) → length head ≤ limit → (q : Written)
+      pub both-done : (k : ℕ) → Second (Ok k) → (head out' : List ℕ) → length head ≤ limit → (q : Result ℕ Refusal)
           → Writes (repair_says (length (back out n ys)) head first) first (back out n ys) out' q
-          → Writes (roomed (length out) both) both out out' (Count (n + k))
+          → Writes (roomed (length out) both) both out out' (Ok (n + k))
       both-done k w head out' few q v =
-          let c = repair-count text second (lent out n) ys (Count k) w k refl in
+          let c = repair-count text second (lent out n) ys (Ok k) w k refl in
           let y : ys ≡ second ++ drop (length second) (lent out n) = w.output ∙ rw (← w.answer) in
           let placed : length (take n out) ≡ n = length-take-le n out h in
           let fits : length first ≤ length (back out n ys) = rw (back_is out n ys, length-append) (omega (arith, e, placed)) in

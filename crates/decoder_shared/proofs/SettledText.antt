@@ -14,8 +14,7 @@ use Rattle.terms.specs.Told.{told_refusal, size_of}
 use Rattle.terms.specs.Writing.{roomed, Writes}
 use Rattle.terms.specs.declared.First.{First}
 use Rattle.terms.specs.declared.Refusal.{Refusal}
-use Rattle.terms.specs.declared.Written.{Written}
-use Rattle.terms.specs.declared.Written.TheVariants.{Count, Refused}
+use Rattle.std.specs.Prelude.{Result, Ok, Err}
 use Rattle.terms.proofs.WalkBySegments.{part_is}
 use Rattle.decoder_shared.specs.Decoding.{Decoding}
 use Rattle.decoder_shared.specs.Inside.Steps.{counted, tallied, told_of, tallied_as, Fits, Settles, Rests, behind, Answers}
@@ -89,16 +88,16 @@ module _ {S : Type 0} (D : Decoding S) (divides : Division D.look) (cuttable : C
         rw (s.size_is, settled-cut divides cuttable D.write causeless rest, p.writes)
         (sym (written-append D.write (told_of seg head) settled))
 
-    module _ (taken : ℕ) (out out' : List ℕ) (r : Written) (w : Writes (roomed (length out) form) form out out' r) where
+    module _ (taken : ℕ) (out out' : List ℕ) (r : Result ℕ Refusal) (w : Writes (roomed (length out) form) form out out' r) where
       abbrev Answered : List ℕ → List ℕ → S → Type 0
       Answered = Answers D d taken (behind D d (told_of seg head ++ settled) (parts D.look rest).left list) out list out'
 
       -- there was no room
-      pub both-refused : (why : Refusal) → r ≡ Refused why → Answered m.list (told_refusal why) d
+      pub both-refused : (why : Refusal) → r ≡ Err why → Answered m.list (told_refusal why) d
       both-refused why e = rw same-list (answers-refused D d seg head rest list p taken form out out' form-is why (rw e at w))
 
       -- they are written and entered, and what is left is kept
-      pub both-granted : (k : ℕ) → r ≡ Count k
+      pub both-granted : (k : ℕ) → r ≡ Ok k
           → (list'' : List ℕ) → list'' ≡ (tallied room (tallied_as room seg (begun m.list)) settled).list
           → (next : S) → next ≡ D.state (record {
             left = take (length rest - n) (drop n rest);

@@ -14,7 +14,7 @@ use Rattle.theory.proofs.Divisions.{Division, first-size, total_append, cut-size
 use Rattle.theory.proofs.TalliesAdd.{whole-damaged, count-damaged, store_is, log_is}
 use Rattle.theory.proofs.WholeRuns.{Undamaged, run-parts, run-logged}
 use Rattle.terms.specs.Limits.{limit, entry_width}
-use Rattle.terms.specs.Told.{told_first, first_says, size_of}
+use Rattle.terms.specs.Told.{number_of, told_first, first_says, size_of}
 use Rattle.terms.specs.declared.First.{First}
 use Rattle.terms.specs.declared.First.TheVariants.{Nothing, Whole, Damage, Begun}
 use Rattle.terms.proofs.WalkBySegments.{Seen, seen, nothing_seen}
@@ -89,7 +89,7 @@ one_told look text n kind s = rw (s.text-is, s.long-is, s.sure-is, s.kind-is)
 pub segment-told : (look : Reader Kind) (r : First) (text : List ℕ) → told_first r ≡ first_says look text → told_of r text ≡ first_of look text
 segment-told look Nothing text e = rw (nothing_seen look text e)
 segment-told look (Whole n) text e = one_told look text n whole (seen look text n whole true e)
-segment-told look (Damage n c) text e = one_told look text n (damage c) (seen look text n (damage c) true e)
+segment-told look (Damage n c) text e = one_told look text n (damage (number_of c)) (seen look text n (damage (number_of c)) true e)
 segment-told look (Begun n) text e = let s = seen look text n (damage ended) false e in rw (s.text-is, s.sure-is)
 
 module _ {look : Reader Kind} (D : Division look) where
@@ -122,7 +122,8 @@ module _ {look : Reader Kind} (D : Division look) where
   told text Nothing e = rw (nothing_seen look text e) (record { tallies = λ room l o. refl; size_is = omega arith; inside = omega arith; done-are = refl })
   told text (Whole n) e = seen-told text (Whole n) n whole (seen look text n whole true e) (λ room l o s k z. one-passed room l o s n k z) refl
   told text (Damage n c) e =
-      seen-told text (Damage n c) n (damage c) (seen look text n (damage c) true e) (λ room l o s k z. one-struck room l o s n c k z) refl
+      seen-told text (Damage n c) n (damage (number_of c)) (seen look text n (damage (number_of c)) true e)
+      (λ room l o s k z. one-struck room l o s n (number_of c) k z) refl
   told text (Begun n) e =
       let s = seen look text n (damage ended) false e in
       let f : first_of look text ≡ [] = rw (s.text-is, s.sure-is) in

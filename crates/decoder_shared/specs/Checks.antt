@@ -2,10 +2,7 @@
 use Rattle.std.specs.Prelude.{ℕ, ◌*◌, Bool, cond, List, [], ◌∷◌, ltb}
 use Rattle.terms.specs.Limits.{entry_width}
 use Rattle.terms.specs.Checks.{tested}
-use Rattle.terms.specs.Told.{told_refusal}
 use Rattle.decoder_shared.specs.Decoding.{Decoding}
-use Rattle.decoder_shared.specs.declared.Admission.{Admission}
-use Rattle.decoder_shared.specs.declared.Admission.TheVariants.{Granted, Refused}
 
 -- THE CHECKS before a call that brings so many elements and lends a list of so many numbers, of a state that passes its tests or not, has
 -- taken so many elements and has such a room: refusal 8, 2, 7 in this order; then what the call says
@@ -15,10 +12,6 @@ checked sound taken room more row says = tested sound taken more (cond (ltb row 
 -- what they tell by themselves
 abbrev pub checks : Bool → ℕ → ℕ → ℕ → ℕ → List ℕ
 checks sound taken room more row = checked sound taken room more row (0 ∷ [])
-
-abbrev pub admission : Admission → List ℕ
-admission Granted = 0 ∷ []
-admission (Refused r) = told_refusal r
 
 -- the same of a state of some decoder
 module _ {S : Type 0} (D : Decoding S) where

@@ -7,7 +7,7 @@ use Rattle.theory.specs.Table.{Kind, damage}
 use Rattle.theory.specs.Table as table
 use Rattle.theory.specs.Tally.{written, total, size, store, Log}
 use Rattle.terms.specs.Limits.{limit, entry_width}
-use Rattle.terms.specs.Told.{size_of, if_granted}
+use Rattle.terms.specs.Told.{number_of, size_of, if_granted}
 use Rattle.terms.specs.Writing.{roomed, output_of}
 use Rattle.terms.specs.declared.First.{First}
 use Rattle.terms.specs.declared.First.TheVariants.{Nothing, Whole, Damage, Begun}
@@ -51,14 +51,14 @@ segment_of kind (x ∷ xs) = record { head = x; tail = xs; tag = kind } ∷ []
 abbrev pub told_of : First → List ℕ → List (Segment Kind)
 told_of Nothing text = []
 told_of (Whole n) text = segment_of table.whole (take n text)
-told_of (Damage n cause) text = segment_of (damage cause) (take n text)
+told_of (Damage n cause) text = segment_of (damage (number_of cause)) (take n text)
 told_of (Begun n) text = []
 
 -- what the reader told of a text's first segment is tallied, if that is settled
 abbrev pub tallied_as : ℕ → First → Log → Log
 tallied_as room Nothing l = l
 tallied_as room (Whole n) l = passed n l
-tallied_as room (Damage n cause) l = struck room n cause l
+tallied_as room (Damage n cause) l = struck room n (number_of cause) l
 tallied_as room (Begun n) l = l
 
 -- all that is settled of a text is tallied, and it has so many elements
