@@ -1,21 +1,19 @@
 -- Plain lookup, in the numbers of the refusals.
-use Rattle.std.specs.Prelude.{ℕ, List, [], ◌∷◌}
+use Rattle.std.specs.Prelude.{ℕ, List, [], ◌∷◌, Result}
 use Rattle.theory.specs.Place.{Found, at, inside, past, unusable, plain}
 use Rattle.terms.specs.Strict.{limited}
-use Rattle.terms.specs.Told.{told_refusal}
+use Rattle.terms.specs.Told.{told}
+use Rattle.terms.specs.declared.Refusal.{Refusal}
 use Rattle.place.specs.Measures.{ruler, reader}
 use Rattle.place.specs.declared.Place.{Place}
-use Rattle.place.specs.declared.Placed.{Placed}
-use Rattle.place.specs.declared.Placed.TheVariants.{At, Refused}
 
 -- a place's four counts
 abbrev pub four_counts : Place → List ℕ
 four_counts p = p.bytes ∷ p.units ∷ p.points ∷ p.lines ∷ []
 
 -- 0 and the four counts of a place, or the refusal's number and value
-abbrev pub told_placed : Placed → List ℕ
-told_placed (At p) = 0 ∷ four_counts p
-told_placed (Refused r) = told_refusal r
+abbrev pub told_placed : Result Place Refusal → List ℕ
+told_placed = told four_counts
 
 abbrev pub found_says : Found Place → List ℕ
 found_says (at p) = 0 ∷ four_counts p

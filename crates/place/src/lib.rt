@@ -6,23 +6,23 @@ ghost use Rattle.utf8.specs.Classes.{by_classes};
 ghost use Rattle.place.specs.Measures.{place};
 ghost use Rattle.place.specs.Walk.{number, measure, units_by_size, stepped_by, fair, over};
 
-use terms::{Decoder, Refusal};
+use terms::Decoder;
 
 // Offsets in the four measures: none is passed for another.
-#[derive(Clone, Copy)]
+#[derive(Clone, Copy, PartialEq, Eq)]
 pub struct Bytes(pub usize);
 
-#[derive(Clone, Copy)]
+#[derive(Clone, Copy, PartialEq, Eq)]
 pub struct Units(pub usize);
 
-#[derive(Clone, Copy)]
+#[derive(Clone, Copy, PartialEq, Eq)]
 pub struct Points(pub usize);
 
-#[derive(Clone, Copy)]
+#[derive(Clone, Copy, PartialEq, Eq)]
 pub struct Lines(pub usize);
 
 // An offset in one of them.
-#[derive(Clone, Copy)]
+#[derive(Clone, Copy, PartialEq, Eq)]
 pub enum Offset {
     Byte(Bytes),
     Unit(Units),
@@ -57,7 +57,7 @@ impl Offset {
 }
 
 // A boundary with four counts of what lies before it.
-#[derive(Clone, Copy)]
+#[derive(Clone, Copy, PartialEq, Eq)]
 pub struct Place {
     pub bytes: usize,
     pub units: usize,
@@ -93,13 +93,6 @@ impl Place {
     {
         Decoder::LIMIT < self.bytes || Decoder::LIMIT - self.bytes < more
     }
-}
-
-// The answer of a lookup.
-#[derive(Clone, Copy)]
-pub enum Placed {
-    At(Place),
-    Refused(Refusal),
 }
 
 // A segment is two units exactly if it has four bytes.
