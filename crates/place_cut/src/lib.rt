@@ -8,7 +8,7 @@ ghost use Rattle.place.specs.Cutting.{beginning};
 ghost use Rattle.place.specs.Lookup.{told_placed};
 ghost use Rattle.place.specs.Walk.{number, measure, Roomy, reached, last_says};
 
-use place::{Bytes, Offset, Place, Placed, Points, Units};
+use place::{Bytes, Offset, Place, Points, Units};
 use terms::Refusal;
 
 // The last place that counts at most so much, from a place on; the text is given from there.
@@ -31,16 +31,16 @@ fn reach(text: &[u8], from: Place, most: Offset, classes: &[u8; 256]) -> Place
 }
 
 // The last place that counts at most so much from any place on: refusal 2 and 8 before the walk.
-pub fn last(text: &[u8], from: Place, most: Offset) -> Placed
+pub fn last(text: &[u8], from: Place, most: Offset) -> Result<Place, Refusal>
     ensures { told_placed result ≡ last_says (measure most) (number most) from text.now }
 {
     if from.over(text.len()) {
-        return Placed::Refused(Refusal::OverLimit);
+        return Err(Refusal::OverLimit);
     }
     if !from.fair() {
-        return Placed::Refused(Refusal::BadState);
+        return Err(Refusal::BadState);
     }
-    Placed::At(reach(text, from, most, &utf8::CLASSES))
+    Ok(reach(text, from, most, &utf8::CLASSES))
 }
 
 // The longest beginning of a text that ends at a boundary and counts at most so much.
