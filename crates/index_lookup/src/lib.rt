@@ -9,71 +9,71 @@ ghost use Rattle.index_lookup.specs.Looking.{byte_says, halving_says};
 ghost use Rattle.index_lookup.specs.Inside.Resuming.{Among, from_says};
 
 use index_checkpoint::SPACING;
-use place::{Bytes, Lines, Offset, Placed, Points, Units};
+use place::{Bytes, Lines, Offset, Place, Points, Units};
 use terms::{Decoder, Refusal};
 
 // Lookup from checkpoint j on: refusal 6 unless it is usable, then plain lookup in the text from its byte on.
-fn look_from(text: &[u8], row: &[u32], j: usize, to: Offset) -> Placed
+fn look_from(text: &[u8], row: &[u32], j: usize, to: Offset) -> Result<Place, Refusal>
     requires { Among j text.now }
     ensures { told_placed result ≡ from_says to j text.now row.now }
 {
     let q = index_checkpoint::checkpoint(row, j);
     if !index_checkpoint::usable(q, j, to) {
-        return Placed::Refused(Refusal::Unusable { checkpoint: j });
+        return Err(Refusal::Unusable { checkpoint: j });
     }
     let at = q.bytes;
     place_lookup::resume(&text[at..], q, to)
 }
 
 // The place that counts so many bytes: refusals 2, 3 and 4, then from the checkpoint that division chooses.
-pub fn at_byte(text: &[u8], row: &[u32], offset: Bytes) -> Placed
+pub fn at_byte(text: &[u8], row: &[u32], offset: Bytes) -> Result<Place, Refusal>
     ensures { told_placed result ≡ byte_says offset.0 text.now row.now }
 {
     let long = text.len();
     if Decoder::LIMIT < long {
-        return Placed::Refused(Refusal::OverLimit);
+        return Err(Refusal::OverLimit);
     }
     let needed = index_checkpoint::needed(long);
     if row.len() < needed {
-        return Placed::Refused(Refusal::NoRoom { needed });
+        return Err(Refusal::NoRoom { needed });
     }
     if long < offset.0 {
-        return Placed::Refused(Refusal::PastEnd);
+        return Err(Refusal::PastEnd);
     }
     look_from(text, row, offset.0 / SPACING, Offset::Byte(offset))
 }
 
 // The place that counts so much: refusals 2 and 3, then from the checkpoint that halving chooses.
-fn by_halving(text: &[u8], row: &[u32], to: Offset) -> Placed
+fn by_halving(text: &[u8], row: &[u32], to: Offset) -> Result<Place, Refusal>
     ensures { told_placed result ≡ halving_says (measure to) (less to) (number to) text.now row.now }
 {
     if Decoder::LIMIT < text.len() {
-        return Placed::Refused(Refusal::OverLimit);
+        return Err(Refusal::OverLimit);
     }
     let needed = index_checkpoint::needed(text.len());
     if row.len() < needed {
-        return Placed::Refused(Refusal::NoRoom { needed });
+        return Err(Refusal::NoRoom { needed });
     }
     let n = index_checkpoint::marks(text.len());
     look_from(text, row, index_checkpoint::halve(row, n, to), to)
 }
 
 // The place that counts so many units: refusals 2 and 3, then from the checkpoint that halving chooses.
-pub fn at_unit(text: &[u8], row: &[u32], offset: Units) -> Placed
+pub fn at_unit(text: &[u8], row: &[u32], offset: Units) -> Result<Place, Refusal>
     ensures { told_placed result ≡ halving_says (λ p. p.units) leb offset.0 text.now row.now }
 {
     by_halving(text, row, Offset::Unit(offset))
 }
 
 // The place that counts so many code points, by the same way.
-pub fn at_point(text: &[u8], row: &[u32], offset: Points) -> Placed
+pub fn at_point(text: &[u8], row: &[u32], offset: Points) -> Result<Place, Refusal>
     ensures { told_placed result ≡ halving_says (λ p. p.points) leb offset.0 text.now row.now }
 {
     by_halving(text, row, Offset::Point(offset))
 }
 
 // The first place of a line, by the same way.
-pub fn at_line(text: &[u8], row: &[u32], offset: Lines) -> Placed
+pub fn at_line(text: &[u8], row: &[u32], offset: Lines) -> Result<Place, Refusal>
     ensures { told_placed result ≡ halving_says (λ p. p.lines) ltb offset.0 text.now row.now }
 {
     by_halving(text, row, Offset::Line(offset))
