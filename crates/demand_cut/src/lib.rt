@@ -4,20 +4,21 @@
 ghost use Rattle.std.specs.Prelude.{◌≡◌, true};
 ghost use Rattle.demand_cut.specs.Inside.Cuttings.{FoundIn};
 
-use place::{Bytes, Lines, Placed, Points, Units};
+use place::{Bytes, Lines, Place, Points, Units};
+use terms::Refusal;
 
 // Cut by the bytes, the units and the code points of the place that a lookup found, where there is one.
-fn cuts_at(text: &[u8], found: Placed) -> bool
+fn cuts_at(text: &[u8], found: Result<Place, Refusal>) -> bool
     requires { FoundIn text.now found }
     ensures { result ≡ true }
 {
-    let Placed::At(p) = found else {
+    let Ok(p) = found else {
         return true;
     };
-    let n = p.bytes;
-    demand_shared::same_bytes(place_cut::cut_bytes(text, Bytes(n)), &text[..n])
-        & demand_shared::same_bytes(place_cut::cut_units(text, Units(p.units)), &text[..n])
-        & demand_shared::same_bytes(place_cut::cut_points(text, Points(p.points)), &text[..n])
+    let before = &text[..p.bytes];
+    (place_cut::cut_bytes(text, Bytes(p.bytes)) == before)
+        & (place_cut::cut_units(text, Units(p.units)) == before)
+        & (place_cut::cut_points(text, Points(p.points)) == before)
 }
 
 // A text is cut at the place that counts so many bytes.

@@ -8,18 +8,17 @@ use lib.Seq.{take_at}
 use Rattle.terms.specs.Told.{told_refusal, told_written, is_granted}
 use Rattle.terms.specs.Writing.{output_of, Writes}
 use Rattle.terms.specs.declared.Refusal.{Refusal}
-use Rattle.terms.specs.declared.Written.{Written}
-use Rattle.terms.specs.declared.Written.TheVariants.{Count, Refused}
+use Rattle.std.specs.Prelude.{Result, Ok, Err}
 use Rattle.terms.proofs.ToldBack.{no_zero}
 
-module _ (says form out : List ℕ) {out' : List ℕ} {r : Written} (w : Writes says form out out' r) where
-  pub refused_as : (q : Refusal) → r ≡ Refused q → says ≡ told_refusal q
+module _ (says form out : List ℕ) {out' : List ℕ} {r : Result ℕ Refusal} (w : Writes says form out out' r) where
+  pub refused_as : (q : Refusal) → r ≡ Err q → says ≡ told_refusal q
   refused_as q e = sym w.answer ∙ ap told_written e
 
-  pub refused_says : (q : Refusal) → r ≡ Refused q → is_granted says ≡ false
+  pub refused_says : (q : Refusal) → r ≡ Err q → is_granted says ≡ false
   refused_says q e = ap is_granted (refused_as q e) ∙ no_zero q
 
-  module _ (n : ℕ) (e : r ≡ Count n) where
+  module _ (n : ℕ) (e : r ≡ Ok n) where
     pub count-says : says ≡ 0 ∷ n ∷ []
     count-says = sym w.answer ∙ ap told_written e
 
