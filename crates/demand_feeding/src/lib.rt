@@ -35,38 +35,24 @@ pub fn nothing() -> Found
 pub fn is_due(why: Refusal, size: usize, places: usize) -> bool
     ensures { result ≡ due (told_refusal why) size places }
 {
-    if why.number() == 2 {
-        return Decoder::LIMIT < size;
+    match why {
+        Refusal::OverLimit => Decoder::LIMIT < size,
+        Refusal::NoRoom { needed } => places < needed,
+        _ => false,
     }
-    if why.number() != 3 {
-        return false;
-    }
-    places < why.first_value()
 }
 
 // Is there room for a start, for the entries in the list, and for the form in the output?
 fn is_enough(room: usize, row: usize, form: usize, places: usize) -> bool
     ensures { result ≡ enough room row form places }
 {
-    if Decoder::ROOM < room {
-        return false;
-    }
-    if row < Decoder::ENTRY * room {
-        return false;
-    }
-    form <= places
+    room <= Decoder::ROOM && Decoder::ENTRY * room <= row && form <= places
 }
 
 fn same_totals(a: Found, b: Found) -> bool
     ensures { result ≡ same_totals a b }
 {
-    if a.whole != b.whole {
-        return false;
-    }
-    if a.damaged != b.damaged {
-        return false;
-    }
-    a.count == b.count
+    a.whole == b.whole && a.damaged == b.damaged && a.count == b.count
 }
 
 // One feed and the feeds of pieces, beside a form of so many places: is each granted exactly where it has room, and are the totals and
@@ -89,15 +75,12 @@ pub fn are_alike(
     if b.granted != is_enough(room, parts_list.len(), form, parts) {
         return false;
     }
-    if !a.granted {
-        return true;
-    }
-    if !b.granted {
+    if !a.granted || !b.granted {
         return true;
     }
     if !same_totals(a, b) {
         return false;
     }
-    let n = Decoder::ENTRY * demand_shared::least(room, a.count);
-    demand_shared::same_numbers(&parts_list[..n], &once_list[..n])
+    let n = Decoder::ENTRY * room.min(a.count);
+    parts_list[..n] == once_list[..n]
 }

@@ -1,6 +1,10 @@
 -- `are_alike` meets its contract: its tests are the definition's, and a way that is granted as is due has room for its entries.
 use mathlib.Core.Path.{◌≡◌, sym, ap, ◌∙◌}
-use Prim.Native.Nat.{◌*◌, ◌≤◌}
+use Prim.Native.Nat.{ℕ, ◌*◌, ◌≤◌}
+use mathlib.Core.Logic.{◌↔◌}
+use mathlib.Core.List.{List}
+use borrow.Author.Rules.{rules}
+use Rattle.demand_shared.proofs.EqualExactly.{compared}
 use mathlib.Core.Bool.{true, beq}
 use lib.ListN.{length, take}
 use lib.Seq.{length-take-le}
@@ -10,7 +14,7 @@ use Rattle.terms.specs.Limits.{entry_width}
 use Rattle.demand_shared.specs.Equal.{equal}
 use Rattle.demand_feeding.specs.Comparing.{enough}
 use Rattle.demand_feeding.proofs.FoundAlike.{beq-yes, enough-start, enough-stored}
-use Rattle.demand_feeding.proofs.are_alike.Goals.{Else-a-is_enough, Else-b-is_enough, Else-not-b}
+use Rattle.demand_feeding.proofs.are_alike.Goals.{Else-a-is_enough, Else-b-is_enough, Else-not-b, then-not-a-via-then-not-a, then-not-a-via-else-not-a+then-not-b}
 use Rattle.demand_feeding.proofs.are_alike.Goals as goal
 
 pub returns-then-a-is_enough : goal.returns-then-a-is_enough
@@ -43,17 +47,12 @@ pub returns-then-not-a : goal.returns-then-not-a
 returns-then-not-a c =
     let a = c.args in
     let at = goal.at.returns-then-not-a c in
-    rw (once-due at.Else-a-is_enough, parts-due at.Else-b-is_enough, not-true a.a.granted c.if-not-a.true)
-
-pub returns-then-not-b : goal.returns-then-not-b
-returns-then-not-b c =
-    let a = c.args in
-    rw (
-      once-due (goal.at.returns-then-not-b c).Else-a-is_enough,
-      parts-due (goal.at.returns-then-not-b c).Else-b-is_enough,
-      not-false a.a.granted c.if-not-a.false,
-      not-true a.b.granted c.if-not-b.true,
-    )
+    let once = once-due at.Else-a-is_enough in
+    let parts = parts-due at.Else-b-is_enough in
+    elim c.then-not-a.branch [
+      | then-not-a-via-then-not-a w ↦ rw (once, parts, not-true a.a.granted w.if-not-a.true)
+      | then-not-a-via-else-not-a+then-not-b w ↦ rw (once, parts, not-false a.a.granted w.if-not-a.false, not-true a.b.granted w.if-not-b.true)
+    ]
 
 pub returns-then-not-same_totals : goal.returns-then-not-same_totals
 returns-then-not-same_totals c =
@@ -81,24 +80,24 @@ overflow_mul-n c =
     let a = c.args in
     let at = goal.at.overflow_mul-n c in
     let is = once-enough at.Else-not-b (once-due at.Else-a-is_enough) in
-    record { fits = omega (arith, c.least-n.ensures, enough-start a.room (length a.once_list.now) a.form a.once is) }
+    record { fits = omega (arith, c.min-n.ensures, enough-start a.room (length a.once_list.now) a.form a.once is) }
 
-pub slice_bounds-same_numbers-end : goal.slice_bounds-same_numbers-end
-slice_bounds-same_numbers-end c =
+pub slice_bounds-eq-end : goal.slice_bounds-eq-end
+slice_bounds-eq-end c =
     let a = c.args in
-    let at = goal.at.slice_bounds-same_numbers-end c in
+    let at = goal.at.slice_bounds-eq-end c in
     let is = parts-enough at.Else-not-b (parts-due at.Else-b-is_enough) in
-    let i : entry_width * c.least-n.result ≤ length a.parts_list.now
-    = rw c.least-n.ensures (enough-stored a.room (length a.parts_list.now) a.form a.parts is a.a.count) in
+    let i : entry_width * c.min-n.result ≤ length a.parts_list.now
+    = rw c.min-n.ensures (enough-stored a.room (length a.parts_list.now) a.form a.parts is a.a.count) in
     sym (length-take-le _ _ i)
 
-pub slice_bounds-same_numbers-end-2 : goal.slice_bounds-same_numbers-end-2
-slice_bounds-same_numbers-end-2 c =
+pub slice_bounds-eq-end-2 : goal.slice_bounds-eq-end-2
+slice_bounds-eq-end-2 c =
     let a = c.args in
-    let at = goal.at.slice_bounds-same_numbers-end-2 c in
+    let at = goal.at.slice_bounds-eq-end-2 c in
     let is = once-enough at.Else-not-b (once-due at.Else-a-is_enough) in
-    let i : entry_width * c.least-n.result ≤ length a.once_list.now
-    = rw c.least-n.ensures (enough-stored a.room (length a.once_list.now) a.form a.once is a.a.count) in
+    let i : entry_width * c.min-n.result ≤ length a.once_list.now
+    = rw c.min-n.ensures (enough-stored a.room (length a.once_list.now) a.form a.once is a.a.count) in
     sym (length-take-le _ _ i)
 
 pub returns : goal.returns
@@ -111,5 +110,6 @@ returns c =
       not-false a.b.granted c.if-not-b.false,
       sym c.same_totals.ensures ∙ c.if-not-same_totals.false,
     )
-    (c.same_numbers.ensures
-    ∙ ap (λ n. equal (take (entry_width * n) a.parts_list.now) (take (entry_width * n) a.once_list.now)) c.least-n.ensures)
+    (let of : ℕ → List ℕ → List ℕ = λ n list. take (entry_width * n) list in
+    let same : (c.eq.result ≡ true) ↔ (of c.min-n.result a.parts_list.now ≡ of c.min-n.result a.once_list.now) = search rules in
+    compared _ _ same ∙ ap (λ n. equal (of n a.parts_list.now) (of n a.once_list.now)) c.min-n.ensures)
