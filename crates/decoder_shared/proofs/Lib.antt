@@ -16,6 +16,8 @@ pub mod FinishAnswers
 pub mod SettledIsCut
 -- Two forms in one output, one behind the other: the second is written behind the places of the first, and then the first
 pub mod FormsJoined
+-- What finish tells loses nothing: two answers that tell the same are equal
+pub mod ToldBack
 -- A text of one segment or none, and what is settled of a text behind it: they are tallied, converted as two texts, and the feed answers
 pub mod SettledText
 -- The room that is enough for a feed and for finish, over any decoder

@@ -1,10 +1,16 @@
 -- Start, feed and finish: what they answer, the state that they hand back, and what the lent output and list then hold.
-use Rattle.std.specs.Prelude.{◌≡◌, ℕ, ◌+◌, cond, List, [], ◌∷◌, length, ltb}
+use Rattle.std.specs.Prelude.{◌≡◌, ℕ, ◌+◌, cond, List, [], ◌∷◌, length, ltb, Result}
 use Rattle.terms.specs.Limits.{most_room}
-use Rattle.terms.specs.Told.{if_granted}
+use Rattle.terms.specs.Told.{told, if_granted}
 use Rattle.terms.specs.Writing.{roomed, output_of}
 use Rattle.decoder_shared.specs.Decoding.{Decoding, fresh, fed, ended, closed}
 use Rattle.decoder_shared.specs.Checks.{admitted}
+use Rattle.terms.specs.declared.Refusal.{Refusal}
+use Rattle.decoder_shared.specs.declared.Totals.{Totals}
+
+-- what finish tells
+abbrev pub told_total : Result Totals Refusal → List ℕ
+told_total = told (λ (t : Totals). t.written ∷ t.whole ∷ t.damaged ∷ t.count ∷ [])
 
 -- ---- START: refusal 7 where the room is over 4,096, with the fresh state of room 0
 

@@ -8,6 +8,36 @@ ghost use Rattle.decoder_shared.specs.Checks.{checks};
 
 use terms::{Cause, Decoder, Refusal};
 
+// What a start gives: whether its room was refused, and the state.
+#[derive(Clone, Copy)]
+pub struct Started<S> {
+    pub answer: Result<(), Refusal>,
+    pub state: S,
+}
+
+// What a feed gives: the places written, or a refusal; and the state then.
+#[derive(Clone, Copy)]
+pub struct Fed<S> {
+    pub answer: Result<usize, Refusal>,
+    pub state: S,
+}
+
+// The places that finish wrote, and the totals of the text: elements in whole segments and in damage, and damages.
+#[derive(Clone, Copy, PartialEq, Eq)]
+pub struct Totals {
+    pub written: usize,
+    pub whole: usize,
+    pub damaged: usize,
+    pub count: usize,
+}
+
+// What finish gives, and the state then.
+#[derive(Clone, Copy)]
+pub struct Finished<S> {
+    pub answer: Result<Totals, Refusal>,
+    pub state: S,
+}
+
 // May a state, sound or not, that has taken so many elements and has such a room take a call that brings more and lends a list of so
 // many numbers? No sum is made that could wrap.
 pub fn admit(sound: bool, taken: usize, room: usize, more: usize, row: usize) -> Result<(), Refusal>
