@@ -16,7 +16,7 @@ use Rattle.terms.specs.Writing.{roomed}
 use Rattle.terms.specs.declared.Decoder.{Decoder}
 use Rattle.terms.specs.declared.First.{First}
 use Rattle.terms.specs.declared.Refusal.TheVariants.{NoRoom}
-use Rattle.terms.specs.declared.Written.TheVariants.{Count, Refused}
+use Rattle.std.specs.Prelude.{Ok, Err}
 use Rattle.utf8.specs.Bytes.{bytes}
 use Rattle.utf8_pending.specs.Tail.{first_settled, settled_size}
 use Rattle.decoder_shared.specs.Inside.Steps.{told_of}
@@ -32,7 +32,7 @@ use Rattle.decoder.proofs.SegmentsAct.{logs-long, acted-append, ready-front, rea
 
 module _ (d : Decoder) (taken : ℕ) (s : State Log) (out list : List ℕ) where
   pub answers-short : (n : ℕ) → n ≡ length s.kept.out → length out < n
-      → Answers d taken s out list out list (record { answer = Refused (NoRoom n); state = d })
+      → Answers d taken s out list out list (record { answer = Err (NoRoom n); state = d })
   answers-short n e h =
       let l : length out < length s.kept.out = rw e at h in
       let says : roomed (length out) s.kept.out ≡ 3 ∷ n ∷ [] = rw (lt-ltb (length out) (length s.kept.out) l, e) in
@@ -40,7 +40,7 @@ module _ (d : Decoder) (taken : ℕ) (s : State Log) (out list : List ℕ) where
 
   pub answers-done : (w : Work) (q : Decoder) → w ≡ reached out s.kept → length s.kept.out ≤ length out
       → q ≡ keeping s.left w.tally taken d.room
-      → Answers d taken s out list w.out w.list (record { answer = Count w.tally.written; state = q })
+      → Answers d taken s out list w.out w.list (record { answer = Ok w.tally.written; state = q })
   answers-done w q e h held =
       let says : roomed (length out) s.kept.out ≡ 0 ∷ length s.kept.out ∷ [] = rw (le-ltb (length out) (length s.kept.out) h) in
       record {
@@ -53,9 +53,9 @@ module _ (d : Decoder) (taken : ℕ) (s : State Log) (out list : List ℕ) where
 -- where nothing is settled yet, the seam is kept
 pub answers-still : (d : Decoder) (taken : ℕ) (piece out list seam : List ℕ) (q : Decoder)
     → fed d piece list ≡ record { left = seam; kept = (opened d list).kept } → q ≡ keeping seam (tally_of d) taken d.room
-    → Answers d taken (fed d piece list) out list out list (record { answer = Count 0; state = q })
+    → Answers d taken (fed d piece list) out list out list (record { answer = Ok 0; state = q })
 answers-still d taken piece out list seam q e held =
-    subst (λ (s : State Log). Answers d taken s out list out list (record { answer = Count 0; state = q })) (sym e)
+    subst (λ (s : State Log). Answers d taken s out list out list (record { answer = Ok 0; state = q })) (sym e)
     (any.answers-still byte_decoding d taken seam out list q held)
 
 -- ---- the settled segment of a seam, and then a text
@@ -85,7 +85,7 @@ module _ (d : Decoder) (seg : First) (seam rest list : List ℕ) (p : Rests d se
 
   module _ (taken : ℕ) (out : List ℕ) where
     pub behind-short : (n : ℕ) → n ≡ places seg + need (parts bytes rest).done → length out < n
-        → Answers d taken (behind d seam rest list) out list out list (record { answer = Refused (NoRoom n); state = d })
+        → Answers d taken (behind d seam rest list) out list out list (record { answer = Err (NoRoom n); state = d })
     behind-short n e = answers-short d taken (behind d seam rest list) out list n (needs n e)
 
     module _ (h : places seg + need (parts bytes rest).done ≤ length out) where
@@ -110,7 +110,7 @@ module _ (d : Decoder) (seg : First) (seam rest list : List ℕ) (p : Rests d se
         -- and so have those of the text
         pub behind-done : (w : Work) → w ≡ acted d.room (parts bytes rest).done v
             → (q : Decoder) → q ≡ keeping (parts bytes rest).left w.tally taken d.room
-            → Answers d taken (behind d seam rest list) out list w.out w.list (record { answer = Count w.tally.written; state = q })
+            → Answers d taken (behind d seam rest list) out list w.out w.list (record { answer = Ok w.tally.written; state = q })
         behind-done w f q held =
             let g : w ≡ acted d.room all begins = f ∙ rw seam-acted (acted-append d.room (first_settled bytes seam) (parts bytes rest).done begins) in
             answers-done d taken (behind d seam rest list) out list w q g (omega (arith, h, needs _ refl)) held

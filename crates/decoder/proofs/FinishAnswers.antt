@@ -22,7 +22,7 @@ use Rattle.decoder.specs.State.{left, byte_decoding}
 use Rattle.decoder.specs.Feeding.{Finishes}
 use Rattle.decoder.specs.Inside.Acting.{Work, work, log_of, reached, Fits, mended}
 use Rattle.decoder.specs.Inside.Steps.{tally_of}
-use Rattle.decoder.specs.declared.Total.TheVariants.{Given, Refused}
+use Rattle.std.specs.Prelude.{Ok, Err}
 use Rattle.decoder.proofs.TestsAsFacts.{Sound, sound_is}
 use Rattle.decoder.proofs.SeamSettled.{left-long}
 
@@ -43,14 +43,14 @@ module _ (d : Decoder) (out list : List ℕ) (three : length d.held ≡ most_pen
   long = left-long d three passes
 
   pub finish-none : d.pending ≡ 0 → (q : Decoder) → q ≡ fresh_of d.room
-      → Finishes d out list out list (record { answer = Given 0 d.whole d.damaged d.count; state = q })
+      → Finishes d out list out list (record { answer = Ok (record { written = 0; whole = d.whole; damaged = d.damaged; count = d.count }); state = q })
   finish-none z = any.finish-none byte_decoding d out list g (ap (λ (n : ℕ). take n d.held) z)
 
   module _ (some : d.pending ≡ 0 → ⊥) where
     left-some : length (left d) ≡ 0 → ⊥
     left-some z = some (sym long ∙ z)
 
-    pub finish-short : length out < length mark → Finishes d out list out list (record { answer = Refused (NoRoom (length mark)); state = d })
+    pub finish-short : length out < length mark → Finishes d out list out list (record { answer = Err (NoRoom (length mark)); state = d })
     finish-short = any.finish-short byte_decoding d out list g bytes_division most_pending bytes-hold held-ended mark marks passes.tail.begins left-some
 
     abbrev begins : Work
@@ -65,7 +65,7 @@ module _ (d : Decoder) (out list : List ℕ) (three : length d.held ≡ most_pen
     pub finish-done : length mark ≤ length out → (w : Work) → w ≡ reached out (mended d.room d.pending ended (log_of begins))
         → (q : Decoder) → q ≡ fresh_of d.room
         → Finishes d out list w.out w.list
-        (record { answer = Given w.tally.written w.tally.whole w.tally.damaged w.tally.count; state = q })
+        (record { answer = Ok (record { written = w.tally.written; whole = w.tally.whole; damaged = w.tally.damaged; count = w.tally.count }); state = q })
     finish-done h w e q f =
         let m : Log = struck d.room d.pending ended (counted d.whole d.damaged d.count list) in
         let same = ap (λ (n : ℕ). struck d.room n ended (counted d.whole d.damaged d.count list)) (sym long) in

@@ -6,13 +6,13 @@ use lib.ListN.{length, get_or}
 use Rattle.terms.specs.Limits.{limit}
 use Rattle.terms.specs.Told.{told_written, is_granted, if_granted}
 use Rattle.terms.specs.declared.Decoder.{Decoder}
-use Rattle.terms.specs.declared.Written.TheVariants.{Count}
+use Rattle.std.specs.Prelude.{Ok}
 use Rattle.decoder_shared.proofs.AnyCutting.{feed-grants}
 use Rattle.decoder.specs.State.{byte_decoding, fed, closed}
 use Rattle.decoder.specs.Feeding.{feed_says, Feeds}
-use Rattle.decoder.specs.declared.Fed.{Fed}
+use Rattle.decoder_shared.specs.declared.Fed.{Fed}
 
-module _ {d : Decoder} {piece out list out' list' : List ℕ} {r : Fed} (f : Feeds d piece out list out' list' r) (n : ℕ) (e : r.answer ≡ Count n) where
+module _ {d : Decoder} {piece out list out' list' : List ℕ} {r : Fed Decoder} (f : Feeds d piece out list out' list' r) (n : ℕ) (e : r.answer ≡ Ok n) where
   says : feed_says d piece out list ≡ 0 ∷ n ∷ []
   says = sym f.answer ∙ ap told_written e
 

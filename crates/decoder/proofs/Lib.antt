@@ -12,8 +12,6 @@ pub mod BytesLawful
 pub mod GrantedFeedTakes
 -- What a feed keeps, apart from the list: the state that it hands back, and the state of pieces one by one
 pub mod StateKept
--- What the decoder's calls tell loses nothing: two answers that tell the same are equal
-pub mod ToldBack
 -- Two answers that the promise of start, feed or finish allows are equal, and they leave the same
 pub mod OneAnswer
 -- The room that is enough for a feed and for finish: what is pending becomes one segment, with or without the next bytes

@@ -8,7 +8,7 @@ use native.Mathlib.Nat.{add-zero}
 use native.Mathlib.Omega.{arith}
 use Rattle.theory.specs.Table.{Kind, whole, damage}
 use Rattle.theory.specs.Tally.{total, size}
-use Rattle.terms.specs.Told.{told_first, first_says}
+use Rattle.terms.specs.Told.{number_of, told_first, first_says}
 use Rattle.terms.specs.declared.First.{First}
 use Rattle.terms.specs.declared.First.TheVariants.{Nothing, Whole, Damage, Begun}
 use Rattle.terms.proofs.WalkBySegments.{Seen, seen}
@@ -48,7 +48,7 @@ damage_need n c text s = rw (s.text-is, s.long-is)
 places_are : (r : First) (text : List ℕ) → told_first r ≡ first_says bytes text → settled_size r ≡ total size (told_of r text) → places r ≡ need (told_of r text)
 places_are Nothing text e k = refl
 places_are (Whole n) text e k = k ∙ segment-size whole (take n text) ∙ sym (whole-need (take n text))
-places_are (Damage n c) text e k = damage_need n c text (seen bytes text n (damage c) true e)
+places_are (Damage n c) text e k = damage_need n (number_of c) text (seen bytes text n (damage (number_of c)) true e)
 places_are (Begun n) text e k = refl
 
 pub stands : (r : First) (text : List ℕ) → told_first r ≡ first_says bytes text → Stands r text

@@ -1,5 +1,5 @@
 -- What is settled of a text takes at most three places for each byte; and what is lacking of them.
-use mathlib.Core.Path.{◌≡◌, ◌∙◌}
+use mathlib.Core.Path.{◌≡◌, ap, ◌∙◌}
 use Prim.Native.Nat.{ℕ, ◌+◌, ◌*◌, ◌≤◌, ◌<◌}
 use native.Mathlib.Nat.{mul-add}
 use mathlib.Core.List.{List, [], ◌∷◌, ◌++◌}
@@ -7,6 +7,7 @@ use lib.ListN.{length, length-append}
 use lib.Dec.{ltb}
 use borrow.Author.Tests.{ltb-true, ltb-false}
 use native.Mathlib.Omega.{arith}
+use Rattle.std.specs.Prelude.{Option, None, Some}
 use Rattle.theory.specs.Reader.{Segment, parts}
 use Rattle.theory.specs.Table.{Kind, is_damage}
 use Rattle.theory.specs.Tally.{total, size}
@@ -30,15 +31,20 @@ need-small (s ∷ ss) = rw (length-append, mul-add) (omega (arith, mend-small s,
 pub parts_small : (text : List ℕ) → need (parts bytes text).done ≤ 3 * length text
 parts_small text = omega (arith, need-small (parts bytes text).done, parts-size bytes text)
 
--- ---- what is lacking: something where so many places are too few, and nothing where they are enough
+-- ---- what is lacking
 
-module _ (needed most n : ℕ) (e : n ≡ lack needed most) where
-  pub lack-some : 0 < n → (n ≡ needed) × (most < n)
-  lack-some h = split (ltb most needed)
-      (λ t. let z : n ≡ needed = e ∙ rw t in (z, rw z (ltb-true most needed t)))
-      (λ t. let z : n ≡ 0 = e ∙ rw t in absurd (omega arith))
+abbrev or_zero : Option ℕ → ℕ
+or_zero None = 0
+or_zero (Some n) = n
 
-  pub lack-none : n ≤ 0 → needed ≤ most
-  lack-none h = split (ltb most needed)
-      (λ t. let z : n ≡ needed = e ∙ rw t in let l : most < needed = ltb-true most needed t in absurd (omega arith))
+-- something where so many places are too few, and nothing where they are enough
+module _ (needed most : ℕ) where
+  pub lack-some : (n : ℕ) → Some n ≡ lack needed most → (n ≡ needed) × (most < n)
+  lack-some n e = split (ltb most needed)
+      (λ t. let s : Some n ≡ Some needed = e ∙ rw t in let z : n ≡ needed = ap (λ (q : Option ℕ). or_zero q) s in (z, rw z (ltb-true most needed t)))
+      (λ t. let s : Some n ≡ None = e ∙ rw t in cc)
+
+  pub lack-none : None ≡ lack needed most → needed ≤ most
+  lack-none e = split (ltb most needed)
+      (λ t. let s : ◌≡◌ {A = Option ℕ} None (Some needed) = e ∙ rw t in cc)
       (λ t. ltb-false most needed t)

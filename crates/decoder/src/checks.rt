@@ -1,11 +1,10 @@
 // The tests of a decoder's state, and the checks before a call.
 ghost use Rattle.std.specs.Prelude.{◌≡◌};
-ghost use Rattle.decoder_shared.specs.Checks.{admission};
+ghost use Rattle.terms.specs.Told.{told_checked};
 ghost use Rattle.decoder.specs.Tests.{sound, balanced};
 ghost use Rattle.decoder.specs.Checks.{admit_says};
 
-use decoder_shared::Admission;
-use terms::Decoder;
+use terms::{Decoder, Refusal};
 
 // Are the bytes those that were taken, and is every number within its bounds? No sum is made that could wrap.
 fn is_balanced(state: Decoder) -> bool
@@ -45,8 +44,8 @@ pub fn is_sound(state: Decoder) -> bool
 }
 
 // May a state take a call that brings so many bytes and lends a list of so many numbers?
-pub(crate) fn admit(state: Decoder, more: usize, row: usize) -> Admission
-    ensures { admission result ≡ admit_says state more row }
+pub(crate) fn admit(state: Decoder, more: usize, row: usize) -> Result<(), Refusal>
+    ensures { told_checked result ≡ admit_says state more row }
 {
     decoder_shared::admit(is_sound(state), state.taken, state.room, more, row)
 }

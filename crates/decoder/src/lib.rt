@@ -12,8 +12,7 @@ ghost use Rattle.decoder.specs.Room.{most_fed};
 ghost use Rattle.decoder.specs.Inside.Steps as steps;
 
 use crate::tally::Tally;
-use decoder_shared::Admission;
-use terms::{Decoder, First, Refusal, Written};
+use terms::{Cause, Decoder, First, Refusal};
 
 mod checks;
 mod tally;
@@ -21,43 +20,14 @@ mod walk;
 
 pub use checks::is_sound;
 
-// The state of a start, and whether its room was refused.
-#[derive(Clone, Copy)]
-pub struct Started {
-    pub answer: Opening,
-    pub state: Decoder,
-}
+// What the calls give.
+pub type Started = decoder_shared::Started<Decoder>;
 
-#[derive(Clone, Copy)]
-pub enum Opening {
-    Ready,
-    Refused(Refusal),
-}
+pub type Fed = decoder_shared::Fed<Decoder>;
 
-// What a feed answers, and the state then.
-#[derive(Clone, Copy)]
-pub struct Fed {
-    pub answer: Written,
-    pub state: Decoder,
-}
+pub type Finished = decoder_shared::Finished<Decoder>;
 
-// What finish answers: the places written and the totals of the text, or a refusal; and the state then.
-#[derive(Clone, Copy)]
-pub enum Total {
-    Given {
-        written: usize,
-        whole: usize,
-        damaged: usize,
-        count: usize,
-    },
-    Refused(Refusal),
-}
-
-#[derive(Clone, Copy)]
-pub struct Finished {
-    pub answer: Total,
-    pub state: Decoder,
-}
+pub use decoder_shared::Totals;
 
 // ---- a piece behind what is pending
 
@@ -103,10 +73,9 @@ fn feed_rest(
     ensures { steps.Answers state taken (steps.behind state seam.now rest.now list.old)
         out.old list.old out.new list.new result }
 {
-    let needed = crate::walk::lacking(seg, rest, out.len());
-    if 0 < needed {
+    if let Some(needed) = crate::walk::lacking(seg, rest, out.len()) {
         return Fed {
-            answer: Written::Refused(Refusal::NoRoom { needed }),
+            answer: Err(Refusal::NoRoom { needed }),
             state,
         };
     }
@@ -115,7 +84,7 @@ fn feed_rest(
     let tally = all.tally;
     let at = all.size;
     Fed {
-        answer: Written::Count(tally.written),
+        answer: Ok(tally.written),
         state: keep(&rest[at..], tally, taken, state.room),
     }
 }
@@ -142,7 +111,7 @@ fn join(seam: &[u8], state: Decoder, piece: &[u8], out: &mut [u8], list: &mut [u
     let size = utf8_pending::settled_size(seg);
     if size < state.pending {
         return Fed {
-            answer: Written::Count(0),
+            answer: Ok(0),
             state: keep(seam, open_tally(state), taken, state.room),
         };
     }
@@ -172,31 +141,31 @@ fn end(state: Decoder, out: &mut [u8], list: &mut [u32]) -> Finished
 {
     if state.pending == 0 {
         return Finished {
-            answer: Total::Given {
+            answer: Ok(Totals {
                 written: 0,
                 whole: state.whole,
                 damaged: state.damaged,
                 count: state.count,
-            },
+            }),
             state: Decoder::fresh(state.room),
         };
     }
     let needed = crate::tally::MARK;
     if out.len() < needed {
         return Finished {
-            answer: Total::Refused(Refusal::NoRoom { needed }),
+            answer: Err(Refusal::NoRoom { needed }),
             state,
         };
     }
     let first = open_tally(state);
-    let all = crate::tally::mend(state.pending, First::ENDED, first, state.room, out, list);
+    let all = crate::tally::mend(state.pending, Cause::Ended, first, state.room, out, list);
     Finished {
-        answer: Total::Given {
+        answer: Ok(Totals {
             written: all.written,
             whole: all.whole,
             damaged: all.damaged,
             count: all.count,
-        },
+        }),
         state: Decoder::fresh(state.room),
     }
 }
@@ -209,12 +178,12 @@ pub fn start(room: usize) -> Started
 {
     if Decoder::ROOM < room {
         return Started {
-            answer: Opening::Refused(Refusal::ListRoom),
+            answer: Err(Refusal::ListRoom),
             state: Decoder::fresh(0),
         };
     }
     Started {
-        answer: Opening::Ready,
+        answer: Ok(()),
         state: Decoder::fresh(room),
     }
 }
@@ -234,9 +203,9 @@ pub fn feed(state: Decoder, piece: &[u8], out: &mut [u8], list: &mut [u32]) -> F
     ensures { Feeds state piece.now out.old list.old out.new list.new result }
 {
     match crate::checks::admit(state, piece.len(), list.len()) {
-        Admission::Granted => take(state, piece, out, list),
-        Admission::Refused(why) => Fed {
-            answer: Written::Refused(why),
+        Ok(()) => take(state, piece, out, list),
+        Err(why) => Fed {
+            answer: Err(why),
             state,
         },
     }
@@ -247,9 +216,9 @@ pub fn finish(state: Decoder, out: &mut [u8], list: &mut [u32]) -> Finished
     ensures { Finishes state out.old list.old out.new list.new result }
 {
     match crate::checks::admit(state, 0, list.len()) {
-        Admission::Granted => end(state, out, list),
-        Admission::Refused(why) => Finished {
-            answer: Total::Refused(why),
+        Ok(()) => end(state, out, list),
+        Err(why) => Finished {
+            answer: Err(why),
             state,
         },
     }

@@ -2,13 +2,14 @@
 ghost use Rattle.std.specs.Prelude.{◌≡◌, ℕ, ◌+◌, ◌≤◌, List, ◌++◌, length, drop};
 ghost use Rattle.terms.specs.Form.{replacement};
 ghost use Rattle.terms.specs.Limits.{limit};
+ghost use Rattle.terms.specs.Told.{number_of};
 ghost use Rattle.utf8.specs.Scalar.{utf8};
 ghost use Rattle.utf8_pending.specs.Tail.{settled_size};
 ghost use Rattle.decoder_shared.specs.Inside.Steps.{told_of};
 ghost use Rattle.decoder.specs.Inside.Acting as acting;
 ghost use Rattle.decoder.specs.Inside.Acting.{work, log_of, reached, Fits};
 
-use terms::First;
+use terms::{Cause, First};
 
 // What is kept of the segments so far: bytes in whole segments and in damage, damages, and places written in the output.
 #[derive(Clone, Copy)]
@@ -66,7 +67,7 @@ fn put_mark(out: &mut [u8])
 // U+FFFD is written for a damage of so many bytes, and it is entered with its cause and counted.
 pub(crate) fn mend(
     n: usize,
-    cause: u32,
+    cause: Cause,
     tally: Tally,
     room: usize,
     out: &mut [u8],
@@ -74,7 +75,7 @@ pub(crate) fn mend(
 ) -> Tally
     requires { Fits room 3 n (work tally out.old list.old) }
     ensures { work result out.new list.new
-        ≡ reached out.old (acting.mended room n cause (log_of (work tally out.old list.old))) }
+        ≡ reached out.old (acting.mended room n (number_of cause) (log_of (work tally out.old list.old))) }
 {
     let at = tally.written;
     put_mark(&mut out[at..]);

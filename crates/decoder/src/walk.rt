@@ -50,21 +50,21 @@ fn need_of(text: &[u8]) -> usize
     run + need_on(&text[run..])
 }
 
-// How many places a segment and what is settled of a text behind it need, where so many are too few, and 0 where they are enough.
-// Nothing is counted where they are enough for any text of this length.
-pub(crate) fn lacking(seg: First, text: &[u8], given: usize) -> usize
+// How many places a segment and what is settled of a text behind it need, where so many are too few. Nothing is counted where they are
+// enough for any text of this length.
+pub(crate) fn lacking(seg: First, text: &[u8], given: usize) -> Option<usize>
     requires { (places seg ≤ 3 * limit) × (length text.now ≤ limit) }
     ensures { result ≡ lack (places seg + need (parts bytes text.now).done) given }
 {
     let first = crate::tally::places(seg);
     if first + crate::tally::MARK * text.len() <= given {
-        return 0;
+        return None;
     }
     let needed = first + need_of(text);
     if given < needed {
-        return needed;
+        return Some(needed);
     }
-    0
+    None
 }
 
 // Each settled segment of a text acts in its turn: segments and runs of whole ones by turns, a segment first.

@@ -1,5 +1,5 @@
 -- What settled segments do to a tally, to the output and to the list: what the log of them says.
-use Rattle.std.specs.Prelude.{◌≡◌, ℕ, ◌+◌, ◌*◌, ◌≤◌, length, take, drop, ltb, cond}
+use Rattle.std.specs.Prelude.{◌≡◌, ℕ, ◌+◌, ◌*◌, ◌≤◌, length, take, drop, ltb, cond, Option, Some, None}
 use mathlib.Core.List.{List, [], ◌∷◌, ◌++◌, foldl}
 use Rattle.theory.specs.Reader.{Segment, parts}
 use Rattle.theory.specs.Table.{Kind, damage}
@@ -22,9 +22,9 @@ use Rattle.decoder.specs.declared.tally.Tally.{Tally}
 abbrev pub need : List (Segment Kind) → ℕ
 need ss = length (written (mend utf8) ss)
 
--- how many of them are needed, where so many are too few, and 0 where they are enough
-abbrev pub lack : ℕ → ℕ → ℕ
-lack needed most = cond (ltb most needed) needed 0
+-- how many of them are needed, where so many are too few
+abbrev pub lack : ℕ → ℕ → Option ℕ
+lack needed most = cond (ltb most needed) (Some needed) None
 
 abbrev pub places : First → ℕ
 places Nothing = 0

@@ -12,7 +12,7 @@ use Rattle.utf8_pending.specs.Tail.{first_settled}
 use Rattle.decoder_shared.specs.Inside.Steps as steps
 use Rattle.decoder.specs.declared.tally.Tally.{Tally}
 use Rattle.decoder.specs.State.{byte_decoding}
-use Rattle.decoder.specs.declared.Fed.{Fed}
+use Rattle.decoder_shared.specs.declared.Fed.{Fed}
 
 -- the tally that a state begins with, and the state that keeps a tally and what is left
 abbrev pub tally_of : Decoder → Tally
@@ -40,5 +40,5 @@ abbrev pub behind : Decoder → List ℕ → List ℕ → List ℕ → State Log
 behind d seam rest = steps.behind byte_decoding d (first_settled bytes seam ++ (parts bytes rest).done) (parts bytes rest).left
 
 -- what a feed answers where only the output may be too short, and the stream is this one after it
-abbrev pub Answers : Decoder → ℕ → State Log → List ℕ → List ℕ → List ℕ → List ℕ → Fed → Type 0
+abbrev pub Answers : Decoder → ℕ → State Log → List ℕ → List ℕ → List ℕ → List ℕ → Fed Decoder → Type 0
 Answers d taken s out list out' list' r = steps.Answers byte_decoding d taken s out list out' list' (told_written r.answer) r.state

@@ -3,6 +3,7 @@ use mathlib.Core.Path.{◌≡◌, sym, ap, ◌∙◌}
 use lib.ListN.{length, take}
 use lib.Seq.{length-take-le}
 use native.Mathlib.Omega.{arith}
+use Rattle.terms.specs.Told.{number_of}
 use Rattle.terms.specs.declared.First.TheVariants.{Damage}
 use Rattle.utf8_pending.specs.Tail.{settled_size}
 use Rattle.decoder.specs.Inside.Acting.{places, Stands, Work, work, log_of, reached}
@@ -52,7 +53,7 @@ returns-in-Damage c =
     let w : Work = work a.tally a.out.now a.list.now in
     let k : Stands (Damage n why) a.text.now = rw c.in-Damage.is at c.requires.0 in
     rw c.in-Damage.is
-    (c.mend.ensures ∙ ap (reached a.out.now) (mended-acts a.room n why (take n a.text.now) k.bytes-are k.places_are (log_of w)))
+    (c.mend.ensures ∙ ap (reached a.out.now) (mended-acts a.room n (number_of why) (take n a.text.now) k.bytes-are k.places_are (log_of w)))
 
 pub returns-in-Begun : goal.returns-in-Begun
 returns-in-Begun c =

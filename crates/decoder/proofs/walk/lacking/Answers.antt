@@ -1,8 +1,9 @@
 -- `walk::lacking` meets its contract: three places for each byte are always enough, and else the need is counted.
-use Prim.Native.Nat.{◌+◌}
-use mathlib.Core.Path.{◌≡◌, sym, ◌∙◌}
+use Prim.Native.Nat.{ℕ, ◌+◌}
+use mathlib.Core.Path.{◌≡◌, sym, ap, ◌∙◌}
 use borrow.Author.Tests.{lt-ltb, le-ltb}
 use native.Mathlib.Omega.{arith}
+use Rattle.std.specs.Prelude.{Some}
 use Rattle.theory.specs.Reader.{parts}
 use Rattle.utf8.specs.Bytes.{bytes}
 use Rattle.decoder.specs.Inside.Acting.{need, places}
@@ -28,7 +29,8 @@ needed_is c = λ i. c.places-first.ensures i + c.need_of.ensures i
 pub returns-then-given-needed : goal.returns-then-given-needed
 returns-then-given-needed c =
     let a = c.args in
-    needed_is (goal.at.returns-then-given-needed c).After-need_of ∙ sym (rw (lt-ltb a.given (places a.seg + need (parts bytes a.text.now).done) (rw (needed_is (goal.at.returns-then-given-needed c).After-need_of) at c.if-given-needed.true)))
+    let n = needed_is (goal.at.returns-then-given-needed c).After-need_of in
+    ap (λ (k : ℕ). Some k) n ∙ sym (rw (lt-ltb a.given (places a.seg + need (parts bytes a.text.now).done) (rw n at c.if-given-needed.true)))
 
 pub returns : goal.returns
 returns c =
