@@ -17,7 +17,7 @@ use Rattle.terms.specs.Limits.{limit, most_room, most_pending, unheld, entry_wid
 use Rattle.terms.specs.Told.{told_written, is_granted}
 use Rattle.terms.specs.declared.Decoder.{Decoder}
 use Rattle.terms.specs.declared.Refusal.{Refusal}
-use Rattle.terms.specs.declared.Written.TheVariants.{Count, Refused}
+use Rattle.std.specs.Prelude.{Ok, Err}
 use Rattle.terms.proofs.ToldBack.{no_zero}
 use Rattle.terms.proofs.Tested.{tested-then, granted-passed}
 use Rattle.utf8.specs.Bytes.{bytes}
@@ -25,7 +25,7 @@ use Rattle.decoder_shared.proofs.AnyCutting.{feed-grants}
 use Rattle.decoder.proofs.TestsAsFacts.{Sound, sound_is}
 use Rattle.decoder.specs.State.{left, sound, byte_decoding, fed, closed}
 use Rattle.decoder.specs.Feeding.{feed_says, Feeds}
-use Rattle.decoder.specs.declared.Fed.{Fed}
+use Rattle.decoder_shared.specs.declared.Fed.{Fed}
 use Rattle.decoder.specs.Room.{most_fed}
 use Rattle.decoder.proofs.Enough.{enough}
 use Rattle.decoder.proofs.StateKept.{grown, closed_is, grown-sound, grown_append, grown-nothing}
@@ -120,13 +120,13 @@ module _ (d : Decoder) (roomy : d.room ≤ most_room) (b : ℕ) (out list : List
       (λ o. rw (bare-sound d roomy, s, o, le-ltb (length list) (entry_width * 0) (omega arith), form-fits s)))
       (λ s. rw (bare-sound d roomy, s))
 
-  module _ {out' list' : List ℕ} {r : Fed} (h : Feeds (room_of d 0) (b ∷ []) out list out' list' r) where
-    pub step-refused : (q : Refusal) → r.answer ≡ Refused q → refusing d ≡ watching d b
+  module _ {out' list' : List ℕ} {r : Fed Decoder} (h : Feeds (room_of d 0) (b ∷ []) out list out' list' r) where
+    pub step-refused : (q : Refusal) → r.answer ≡ Err q → refusing d ≡ watching d b
     step-refused q e =
         let g : is_granted bare_says ≡ false = ap is_granted (sym h.answer ∙ ap told_written e) ∙ no_zero q in
         sym (watching-refused d b (sym same-grant ∙ g))
 
-    module _ (n : ℕ) (e : r.answer ≡ Count n) where
+    module _ (n : ℕ) (e : r.answer ≡ Ok n) where
       bare-granted : is_granted bare_says ≡ true
       bare-granted = ap is_granted (sym h.answer ∙ ap told_written e)
 
@@ -148,7 +148,7 @@ module _ (d : Decoder) (roomy : d.room ≤ most_room) (b : ℕ) (out list : List
 
 -- ---- THE STATE AFTER THE WATCH is that of a feed of this one byte, for any output and list with which it is not refused
 
-pub watch-feed : (d : Decoder) (b : ℕ) (out list out' list' ns : List ℕ) (r : Fed) → Feeds d (b ∷ []) out list out' list' r
+pub watch-feed : (d : Decoder) (b : ℕ) (out list out' list' ns : List ℕ) (r : Fed Decoder) → Feeds d (b ∷ []) out list out' list' r
     → told_written r.answer ≡ 0 ∷ ns → (watching d b).state ≡ r.state
 watch-feed d b out list out' list' ns r h e =
     let g : is_granted (feed_says d (b ∷ []) out list) ≡ true = ap is_granted (sym h.answer ∙ e) in

@@ -4,9 +4,9 @@
 ghost use Rattle.std.specs.Prelude.{◌≡◌};
 ghost use Rattle.decoder_watch.specs.Watching.{refusing, watching};
 
-use terms::{Decoder, Written};
+use terms::Decoder;
 
-// The state after a byte, and the reply.
+// The state after a byte, and the reply: the C interface has one number for both, the count or 4,294,967,295 for refusals 8 and 2.
 #[derive(Clone, Copy)]
 pub struct Watched {
     pub state: Decoder,
@@ -37,9 +37,8 @@ pub fn step(state: Decoder, b: u8) -> Watched
     let mut out = [0u8; 6];
     let mut list = [0u32; 1];
     let fed = decoder::feed(bare, &piece, &mut out, &mut list);
-    let answer = fed.answer;
-    match answer {
-        Written::Count(_) => {
+    match fed.answer {
+        Ok(_) => {
             let mut next = fed.state;
             next.room = state.room;
             Watched {
@@ -47,7 +46,7 @@ pub fn step(state: Decoder, b: u8) -> Watched
                 reply: next.count as u32,
             }
         }
-        Written::Refused(_) => refuse(state),
+        Err(_) => refuse(state),
     }
 }
 

@@ -10,14 +10,14 @@ returns-then-state-gt-ROOM c = c.refuse.ensures ∙ step-over c.args.state c.arg
 pub overflow_cast-result : goal.overflow_cast-result
 overflow_cast-result c =
     record {
-      fits = step_fits c.args.state c.if-state-gt-ROOM.false c.args.b _ _ (le_refl 6) c.feed-fed.ensures c.in-Count.field-0 c.in-Count.is;
+      fits = step_fits c.args.state c.if-state-gt-ROOM.false c.args.b _ _ (le_refl 6) c.feed-fed.ensures c.in-Ok.field-0 c.in-Ok.is;
     }
 
-pub returns-in-Count : goal.returns-in-Count
-returns-in-Count c =
-    step-granted c.args.state c.if-state-gt-ROOM.false c.args.b _ _ (le_refl 6) c.feed-fed.ensures c.in-Count.field-0 c.in-Count.is
+pub returns-in-Ok : goal.returns-in-Ok
+returns-in-Ok c =
+    step-granted c.args.state c.if-state-gt-ROOM.false c.args.b _ _ (le_refl 6) c.feed-fed.ensures c.in-Ok.field-0 c.in-Ok.is
 
-pub returns-in-Refused : goal.returns-in-Refused
-returns-in-Refused c =
-    c.refuse-in-Refused.ensures
-    ∙ step-refused c.args.state c.if-state-gt-ROOM.false c.args.b _ _ (le_refl 6) c.feed-fed.ensures c.in-Refused.field-0 c.in-Refused.is
+pub returns-in-Err : goal.returns-in-Err
+returns-in-Err c =
+    c.refuse-in-Err.ensures
+    ∙ step-refused c.args.state c.if-state-gt-ROOM.false c.args.b _ _ (le_refl 6) c.feed-fed.ensures c.in-Err.field-0 c.in-Err.is
