@@ -1,7 +1,8 @@
 -- The comparison of two states says yes exactly of the same, and a feed from the fresh state is refused only where that is due.
 use mathlib.Core.Path.{◌≡◌, sym, ap, ◌∙◌}
 use Prim.Native.Nat.{ℕ, ◌/◌, ◌*◌}
-use mathlib.Core.Bool.{Bool, true, false, true≢false}
+use mathlib.Core.Logic.{◌↔◌}
+use mathlib.Core.Bool.{Bool, true, true≢false}
 use mathlib.Core.List.{List, [], ◌∷◌}
 use lib.ListN.{length}
 use lib.Dec.{ltb, eqb}
@@ -26,7 +27,7 @@ use Rattle.demand_watch.specs.Inside.Comparing.{same_state, is_due}
 
 module _ (d e : Decoder) where
   -- yes only of the same
-  same_is : same_state d e ≡ true → d ≡ e
+  pub same_is : same_state d e ≡ true → d ≡ e
   same_is h =
       let room = both _ (eqb d.room e.room) h in
       let count = both _ (eqb d.count e.count) room.0 in
@@ -44,11 +45,8 @@ module _ (d e : Decoder) where
         room = eqb-true d.room e.room room.1 i;
       }
 
-  pub differs : (d ≡ e → ⊥) → false ≡ same_state d e
-  differs f = split (same_state d e) (λ h. absurd (f (same_is h))) (λ h. sym h)
-
   -- where the others are the same, the rooms decide
-  pub room-decides : equal d.held e.held ≡ true → d.pending ≡ e.pending → d.taken ≡ e.taken → d.whole ≡ e.whole → d.damaged ≡ e.damaged
+  room-decides : equal d.held e.held ≡ true → d.pending ≡ e.pending → d.taken ≡ e.taken → d.whole ≡ e.whole → d.damaged ≡ e.damaged
       → d.count ≡ e.count → eqb d.room e.room ≡ same_state d e
   room-decides held pending taken whole damaged count =
       rw (
@@ -67,6 +65,12 @@ same_if d e h =
     sym (room-decides d e (equal-yes d.held e.held (ap (λ (k : Decoder). k.held) h)) (at (λ k. k.pending)) (at (λ k. k.taken))
     (at (λ k. k.whole)) (at (λ k. k.damaged)) (at (λ k. k.count)))
     ∙ eq-eqb d.room e.room (at (λ k. k.room))
+
+-- so a test that says yes exactly of the same is the comparison
+pub states-compared : {r : Bool} (d e : Decoder) → (r ≡ true) ↔ (d ≡ e) → r ≡ same_state d e
+states-compared {r} d e h = split r
+    (λ t. t ∙ sym (same_if d e (h.0 t)))
+    (λ t. t ∙ split (same_state d e) (λ f. absurd (true≢false (sym (h.1 (same_is d e f)) ∙ t))) (λ f. sym f))
 
 -- ---- a refusal
 

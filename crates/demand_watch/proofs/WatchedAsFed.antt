@@ -10,11 +10,11 @@ use native.Mathlib.Omega.{arith}
 use Rattle.terms.specs.Limits.{limit, most_pending, fresh_of}
 use Rattle.terms.specs.Told.{told_written, is_granted}
 use Rattle.terms.specs.declared.Decoder.{Decoder}
-use Rattle.terms.specs.declared.Written.TheVariants.{Count}
+use Rattle.std.specs.Prelude.{Ok}
 use Rattle.decoder_shared.proofs.AnyCutting.{feed-grants}
 use Rattle.decoder.specs.State.{sound, byte_decoding, fed, closed}
 use Rattle.decoder.specs.Feeding.{feed_says, Feeds}
-use Rattle.decoder.specs.declared.Fed.{Fed}
+use Rattle.decoder_shared.specs.declared.Fed.{Fed}
 use Rattle.decoder_watch.specs.Watching.{counting, watching, watched_all}
 use Rattle.decoder_watch.specs.declared.Watched.{Watched}
 use Rattle.decoder_watch.proofs.WatchIsFeed.{watched-all, watched-count}
@@ -47,12 +47,12 @@ module _ (d : Decoder) (list : List ℕ) (three : length d.held ≡ most_pending
       ∙ watched-count d xs list three s x (omega (arith, h, length-append xs (x ∷ []))))
 
 -- BOTH ARE THOSE OF THE FEED
-pub record Same (w : Watched) (q : Fed) : Type 0 where
+pub record Same (w : Watched) (q : Fed Decoder) : Type 0 where
   pub reply : w.reply ≡ q.state.count
   pub state : w.state ≡ q.state
 
-pub same_as_fed : (room : ℕ) (text out list : List ℕ) {out' list' : List ℕ} (w : Watched) (q : Fed) → w ≡ watches (counting (fresh_of room)) text
-    → Feeds (fresh_of room) text out list out' list' q → (n : ℕ) → q.answer ≡ Count n → Same w q
+pub same_as_fed : (room : ℕ) (text out list : List ℕ) {out' list' : List ℕ} (w : Watched) (q : Fed Decoder) → w ≡ watches (counting (fresh_of room)) text
+    → Feeds (fresh_of room) text out list out' list' q → (n : ℕ) → q.answer ≡ Ok n → Same w q
 same_as_fed room text out list w q e f n a =
     let d = fresh_of room in
     let g : is_granted (feed_says d text out list) ≡ true = ap is_granted (sym f.answer ∙ ap told_written a) in

@@ -8,7 +8,7 @@ ghost use Rattle.demand_watch.specs.Watching.{watches, Watches};
 ghost use Rattle.demand_watch.specs.Inside.Comparing.{same_state, is_due};
 
 use decoder_watch::Watched;
-use terms::{Decoder, Refusal, Written};
+use terms::{Decoder, Refusal};
 
 // The last state and reply of the step by value, which the lent form of the watch does in place.
 fn watch_all(text: &[u8], room: usize) -> Watched
@@ -18,45 +18,17 @@ fn watch_all(text: &[u8], room: usize) -> Watched
         state: Decoder::fresh(room),
         reply: 0,
     };
-    let mut i = 0;
-    while i < text.len() {
-        last = decoder_watch::step(last.state, text[i]);
-        i += 1;
+    for &b in text {
+        last = decoder_watch::step(last.state, b);
     }
     last
-}
-
-fn wide(n: u32) -> usize
-    ensures { result ≡ n }
-{
-    n as usize
 }
 
 // Are two states the same in every field?
 fn same_state(one: Decoder, other: Decoder) -> bool
     ensures { result ≡ same_state one other }
 {
-    let held = one.held;
-    let kept = other.held;
-    if !demand_shared::same_bytes(&held, &kept) {
-        return false;
-    }
-    if one.pending != other.pending {
-        return false;
-    }
-    if one.taken != other.taken {
-        return false;
-    }
-    if one.whole != other.whole {
-        return false;
-    }
-    if one.damaged != other.damaged {
-        return false;
-    }
-    if one.count != other.count {
-        return false;
-    }
-    one.room == other.room
+    one == other
 }
 
 // Was this refusal due, where a text of this length was fed to the fresh state of this room? No product is made that could wrap.
@@ -64,20 +36,11 @@ fn is_due(why: Refusal, long: usize, room: usize, places: usize, row: usize) -> 
     ensures { result ≡ is_due why long room places row }
 {
     match why {
-        Refusal::Damaged {
-            start: _,
-            length: _,
-            cause: _,
-        } => false,
         Refusal::OverLimit => Decoder::LIMIT < long,
         Refusal::NoRoom { needed } => places < needed,
-        Refusal::PastEnd => false,
-        Refusal::Inside => false,
-        Refusal::Unusable { checkpoint: _ } => false,
         Refusal::ListRoom => row / Decoder::ENTRY < room,
         Refusal::BadState => Decoder::ROOM < room,
-        Refusal::NoScalar { position: _ } => false,
-        Refusal::NotInPage { offset: _ } => false,
+        _ => false,
     }
 }
 
@@ -87,14 +50,8 @@ pub fn watched(text: &[u8], room: usize, out: &mut [u8], list: &mut [u32]) -> bo
 {
     let last = watch_all(text, room);
     let fed = decoder::feed(Decoder::fresh(room), text, out, list);
-    let answer = fed.answer;
-    match answer {
-        Written::Count(_) => {
-            if wide(last.reply) != fed.state.count {
-                return false;
-            }
-            same_state(last.state, fed.state)
-        }
-        Written::Refused(why) => is_due(why, text.len(), room, out.len(), list.len()),
+    match fed.answer {
+        Ok(_) => last.reply as usize == fed.state.count && same_state(last.state, fed.state),
+        Err(why) => is_due(why, text.len(), room, out.len(), list.len()),
     }
 }

@@ -7,7 +7,7 @@ ghost use Rattle.terms.specs.Told.{number_of, size_of, cause_told, told_cause, t
 
 // The decoder of a byte text that comes in pieces: what it keeps between two pieces. The limits belong to it.
 #[repr(C)]
-#[derive(Clone, Copy)]
+#[derive(Clone, Copy, PartialEq, Eq)]
 pub struct Decoder {
     // the pending bytes, unused ones 0, and how many there are
     pub held: [u8; Decoder::PENDING],

@@ -13,7 +13,7 @@ use Rattle.theory.specs.Tally.{total, size}
 use Rattle.theory.proofs.Cases.{split}
 use Rattle.theory.proofs.Divisions.{Division, Holds, before, first-size, parts-nil, parts-sure, parts-open, left-pending, pending-short}
 use Rattle.terms.specs.Limits.{most_pending}
-use Rattle.terms.specs.Told.{told_first, first_says}
+use Rattle.terms.specs.Told.{number_of, told_first, first_says}
 use Rattle.terms.specs.declared.First.{First}
 use Rattle.terms.specs.declared.First.TheVariants.{Nothing, Whole, Damage, Begun}
 use Rattle.terms.proofs.WalkBySegments.{Seen, seen}
@@ -130,7 +130,7 @@ pub told-size : (r : First) (text : List ℕ) → told_first r ≡ first_says by
 told-size Nothing [] e = rw (settled-nil bytes)
 told-size Nothing (x ∷ xs) e = let z : ◌≡◌ {A = ℕ} 0 1 = cc in absurd (omega arith)
 told-size (Whole n) text e = seen_size text n (seen bytes text n whole true e)
-told-size (Damage n c) text e = seen_size text n (seen bytes text n (damage c) true e)
+told-size (Damage n c) text e = seen_size text n (seen bytes text n (damage (number_of c)) true e)
 told-size (Begun n) text e =
     let s = seen bytes text n (damage ended) false e in
     let z : first_settled bytes text ≡ [] = rw s.text-is (settled-open bytes s.head s.tail s.sure-is) in
