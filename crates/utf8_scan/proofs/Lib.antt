@@ -6,3 +6,5 @@ pub mod StandMore
 pub mod OnwardByBytes
 -- What the three bytes before a place ask for: how many of them wait, and when the byte behind them stands well
 pub mod AskedByThree
+-- A walk over windows of four bytes: each of them is the start of what is left
+pub mod WindowWalk

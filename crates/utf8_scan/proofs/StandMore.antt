@@ -1,14 +1,15 @@
 -- Bytes that stand well, one more or a block more, and what that says of the text.
 use Prim.Native.Nat.{ℕ, zero, suc, ◌+◌, ◌-◌, ◌<◌, ◌≤◌}
-use mathlib.Core.Path.{◌≡◌, ap, ◌∙◌, subst}
+use mathlib.Core.Path.{◌≡◌, sym, ap, ◌∙◌, subst}
 use mathlib.Core.Bool.{true}
-use mathlib.Core.List.{List}
+use mathlib.Core.List.{List, [], ◌∷◌, ◌++◌}
 use native.Mathlib.Omega.{arith}
 use borrow.Author.Count.{below_more}
 use borrow.Author.Tests.{lt-leb}
 use lib.Bits.{bit_or, or_add_and, and_le_l, and_le_r}
-use lib.ListN.{length, take, drop, get_or, length-drop}
-use lib.Seq.{drop-drop, get_or-drop, take_all}
+use lib.ListN.{length, take, drop, get_or, get_or-append, length-take, length-drop}
+use lib.Seq.{drop-drop, get_or-drop, get_or-take, get_or-append_seam}
+use Rattle.std.proofs.lemmas.List.{length_push}
 use Rattle.theory.proofs.Cases.{under}
 use Rattle.utf8_scan.specs.Stands.{stands}
 use Rattle.utf8_scan.specs.Inside.Blocks.{StandsIn, Stand, Below, Ascii, padded, Good}
@@ -52,22 +53,25 @@ stand-ascii t n h k l =
 drops : (z : List ℕ) (i j m : ℕ) → j + i ≡ m → drop i (drop j z) ≡ drop m z
 drops z i j m e = drop-drop i j z ∙ ap (λ (k : ℕ). drop k z) e
 
--- from a place to the end, as code hands on a part of a text
-to_end : (text : List ℕ) (a : ℕ) → take (length text - a) (drop a text) ≡ drop a text
-to_end text a = take_all (length text - a) (drop a text) (omega (arith, length-drop a text))
+-- in the first m bytes of a text as in all of it
+in_front : (m k : ℕ) (z : List ℕ) → k + 3 < m → StandsIn (drop k (take m z)) → StandsIn (drop k z)
+in_front m k z l h = rw (← same 0 (omega arith), ← same 1 (omega arith), ← same 2 (omega arith), ← same 3 (omega arith)) h
+  where
+    same : (j : ℕ) → j < 4 → get_or (drop k (take m z)) j 0 ≡ get_or (drop k z) j 0
+    same j i = get_or-drop k (take m z) j 0 ∙ get_or-take m z (k + j) 0 (omega arith) ∙ sym (get_or-drop k z j 0)
 
 pub good_none : (text : List ℕ) → Good text 0
 good_none text = record { inside = omega arith; stand = λ k l. absurd (omega arith) }
 
--- the n bytes behind the three at a
-pub good_block : (text : List ℕ) (at a n end : ℕ) → Good text at → a + 3 ≤ at → a + 3 + n ≡ end → end ≤ length text
-    → Stand (take (length text - a) (drop a text)) n → Good text end
-good_block text at a n end g before ends inside h = record {
+-- the n bytes behind the three at a, as a part of m bytes has them
+pub good_block : (text : List ℕ) (at a m n end : ℕ) → Good text at → a + 3 ≤ at → a + 3 + n ≡ end → end ≤ length text → n + 3 ≤ m
+    → Stand (take m (drop a text)) n → Good text end
+good_block text at a m n end g before ends inside long h = record {
   inside = inside;
   stand = λ k l. under k at (g.stand k) (λ i.
       let e : drop (k - (a + 3)) (drop a text) ≡ drop (k - 3) text = drops text (k - (a + 3)) a (k - 3) (omega arith) in
       let p : drop (k - 3) text ≡ drop k (padded text) = drops (padded text) (k - 3) 3 k (omega arith) in
-      subst StandsIn (ap (drop (k - (a + 3))) (to_end text a) ∙ e ∙ p) (h (k - (a + 3)) (omega arith)));
+      subst StandsIn (e ∙ p) (in_front m (k - (a + 3)) (drop a text) (omega arith) (h (k - (a + 3)) (omega arith))));
 }
 
 -- ---- the first three bytes
@@ -85,21 +89,23 @@ good_first text h a b c = record { inside = h; stand = go }
 -- ---- bytes below 0x80 at the start of a text
 
 -- the bits of several bytes together are at least each of them
-pub below_or : (t : List ℕ) (k m : ℕ) → Below t k (suc m) → Below t (k + 1) (suc (bit_or m (get_or t k 0)))
-below_or t k m h =
-    below_more (λ (j : ℕ). get_or t j 0 < suc (bit_or m (get_or t k 0))) k
-    (λ j l. omega (arith, h j l, or_add_and m (get_or t k 0), and_le_r m (get_or t k 0)))
-    (omega (arith, or_add_and m (get_or t k 0), and_le_l m (get_or t k 0)))
+pub below_or : (ys : List ℕ) (all b : ℕ) → Below ys (length ys) (suc all) → Below (ys ++ b ∷ []) (length (ys ++ b ∷ [])) (suc (bit_or all b))
+below_or ys all b h = rw (length_push ys b) (below_more (λ (j : ℕ). get_or (ys ++ b ∷ []) j 0 < suc (bit_or all b)) (length ys)
+    (λ j l. rw (get_or-append ys (b ∷ []) 0 j l) (omega (arith, h j l, or_add_and all b, and_le_r all b)))
+    (rw (get_or-append_seam ys b [] 0) (omega (arith, or_add_and all b, and_le_l all b))))
 
--- the n bytes at a, which may overlap what went before
-pub ascii-block : (text : List ℕ) (at a n end : ℕ) → Ascii text at → a ≤ at → a + n ≡ end → end ≤ length text
-    → Below (take (length text - a) (drop a text)) n 0x80 → Ascii text end
-ascii-block text at a n end g before ends inside h = record {
+pub ascii_none : (text : List ℕ) → Ascii text 0
+ascii_none text = record { inside = omega arith; below = λ k l. absurd (omega arith) }
+
+-- the n bytes at a, which may overlap what went before, as a part of m bytes has them
+pub ascii-block : (text : List ℕ) (at a m n end : ℕ) → Ascii text at → a ≤ at → a + n ≡ end → end ≤ length text → n ≤ m
+    → Below (take m (drop a text)) (length (take m (drop a text))) 0x80 → Ascii text end
+ascii-block text at a m n end g before ends inside long h = record {
   inside = inside;
   below = λ k l. under k at (g.below k) (λ i.
       let j : a + (k - a) ≡ k = omega arith in
-      let e : get_or (take (length text - a) (drop a text)) (k - a) 0 ≡ get_or text k 0 = rw (to_end text a, get_or-drop a text (k - a) 0, j) in
-      subst (λ (b : ℕ). b < 0x80) e (h (k - a) (omega arith)));
+      let e : get_or (take m (drop a text)) (k - a) 0 ≡ get_or text k 0 = rw (get_or-take m (drop a text) (k - a) 0 (omega arith), get_or-drop a text (k - a) 0, j) in
+      subst (λ (b : ℕ). b < 0x80) e (h (k - a) (omega (arith, length-take m (drop a text), length-drop a text))));
 }
 
 pub good_ascii : (text : List ℕ) (n : ℕ) → Ascii text n → Good text n

@@ -2,20 +2,14 @@
 // arithmetic that a compiler turns into vector instructions.
 #![tactic(auto)]
 
-ghost use Rattle.std.specs.Prelude.{◌≡◌, true, ◌&&◌, ◌||◌, cond, ℕ, suc, ◌+◌, ◌-◌, ◌<◌, ◌≤◌, length, leb};
+ghost use Rattle.std.specs.Prelude.{◌≡◌, true, ◌&&◌, ◌||◌, cond, ℕ, suc, ◌+◌, ◌<◌, ◌≤◌, length, drop, leb};
 ghost use Rattle.utf8_scan.specs.Stands.{is_later, stands, standing};
-ghost use Rattle.utf8_scan.specs.Inside.Blocks.{Stand, Below, Ascii, Good};
+ghost use Rattle.utf8_scan.specs.Inside.Blocks.{Sound, Stand, Below, Ascii, Good};
 
 mod stands;
 
 pub use stands::waiting;
-
-// x - c where x is larger, else 0.
-fn less(x: u8, c: u8) -> u8
-    ensures { result ≡ x - c }
-{
-    if c < x { x - c } else { 0 }
-}
+use stands::{byte_before, stand};
 
 // All bits, or none.
 fn full(t: bool) -> u8
@@ -28,7 +22,7 @@ fn full(t: bool) -> u8
 fn asked(must: u8, b: u8) -> u8
     ensures { result < 0x80 → is_later b ≡ leb 0x80 must }
 {
-    must ^ full(crate::stands::among(b, 0x80, 0xC0))
+    must ^ full((0x80..0xC0).contains(&b))
 }
 
 // Below 0x80 only where low is true if last is, and false if first is.
@@ -42,136 +36,86 @@ fn edge(first: bool, last: bool, low: bool) -> u8
 fn overlong(b: u8) -> u8
     ensures { result < 0x80 → 0xC0 ≤ b → 0xC2 ≤ b }
 {
-    full((b | 1) == 0xC1)
+    full(matches!(b, 0xC0 | 0xC1))
 }
 
 // Below 0x80 only where b0 stands well behind b1, for bytes below 0xE0.
 fn lane_two(b1: u8, b0: u8) -> u8
     ensures { result < 0x80 → b1 < 0xE0 → (b3 b2 : ℕ) → b2 < 0xE0 → b3 < 0xE0 → stands b3 b2 b1 b0 ≡ true }
 {
-    asked(less(b1, 64), b0) | overlong(b1)
+    asked(b1.saturating_sub(64), b0) | overlong(b1)
 }
 
 // Below 0x80 only where b0 stands well behind b2 and b1, for bytes below 0xF0.
 fn lane_three(b2: u8, b1: u8, b0: u8) -> u8
     ensures { result < 0x80 → b1 < 0xF0 → b2 < 0xF0 → (b3 : ℕ) → b3 < 0xF0 → stands b3 b2 b1 b0 ≡ true }
 {
-    asked(less(b1, 64) | less(b2, 96), b0)
+    asked(b1.saturating_sub(64) | b2.saturating_sub(96), b0)
         | overlong(b1)
-        | edge(b1 == 0xE0, b1 == 0xED, crate::stands::among(b0, 0x80, 0xA0))
+        | edge(b1 == 0xE0, b1 == 0xED, (0x80..0xA0).contains(&b0))
 }
 
 // Below 0x80 only where b0 stands well behind b3, b2 and b1, for any bytes.
 fn lane_four(b3: u8, b2: u8, b1: u8, b0: u8) -> u8
     ensures { result < 0x80 → stands b3 b2 b1 b0 ≡ true }
 {
-    asked(less(b1, 64) | less(b2, 96) | less(b3, 112), b0)
-        | overlong(b1)
-        | less(b1, 117)
-        | edge(b1 == 0xE0, b1 == 0xED, crate::stands::among(b0, 0x80, 0xA0))
-        | edge(b1 == 0xF0, b1 == 0xF4, crate::stands::among(b0, 0x80, 0x90))
+    asked(
+        b1.saturating_sub(64) | b2.saturating_sub(96) | b3.saturating_sub(112),
+        b0,
+    ) | overlong(b1)
+        | b1.saturating_sub(117)
+        | edge(b1 == 0xE0, b1 == 0xED, (0x80..0xA0).contains(&b0))
+        | edge(b1 == 0xF0, b1 == 0xF4, (0x80..0x90).contains(&b0))
 }
 
-// At least both of them.
-fn larger(a: u8, b: u8) -> u8
-    ensures { (a ≤ result) × (b ≤ result) }
-{
-    if a < b { b } else { a }
-}
-
-// A byte that none of the first 131 is above.
-fn top(t: &[u8]) -> u8
-    requires { 131 ≤ length t.now }
+// A byte that none of a block is above.
+fn top(t: &[u8; 131]) -> u8
     ensures { Below t.now 131 (suc result) }
 {
-    let mut m: u8 = 0;
-    for k in 0..131 {
-        m = larger(m, t[k]);
-    }
-    m
+    t.iter().copied().max().unwrap_or(0)
 }
 
-// Does each of the 128 bytes behind the first three stand well? For bytes below 0xE0.
-fn right_two(t: &[u8]) -> bool
-    requires { (131 ≤ length t.now) × Below t.now 131 0xE0 }
+// Does each of the 128 bytes behind the first three pass the test of a lane?
+fn right_by<F: Fn(u8, u8, u8, u8) -> u8>(t: &[u8; 131], lane: F) -> bool
+    requires callable { F.IsAlwaysCallable lane }
+    requires sound { (k : ℕ) → k < 128 → Sound (F.post lane) (drop k t.now) }
     ensures { result ≡ true → Stand t.now 128 }
 {
     let mut e: u8 = 0;
-    for k in 0..128 {
-        e |= lane_two(t[k + 2], t[k + 3]);
-    }
-    e < 0x80
-}
-
-// Does each of the 128 bytes behind the first three stand well? For bytes below 0xF0.
-fn right_three(t: &[u8]) -> bool
-    requires { (131 ≤ length t.now) × Below t.now 131 0xF0 }
-    ensures { result ≡ true → Stand t.now 128 }
-{
-    let mut e: u8 = 0;
-    for k in 0..128 {
-        e |= lane_three(t[k + 1], t[k + 2], t[k + 3]);
-    }
-    e < 0x80
-}
-
-// Does each of the 128 bytes behind the first three stand well? For any bytes.
-fn right_four(t: &[u8]) -> bool
-    requires { 131 ≤ length t.now }
-    ensures { result ≡ true → Stand t.now 128 }
-{
-    let mut e: u8 = 0;
-    for k in 0..128 {
-        e |= lane_four(t[k], t[k + 1], t[k + 2], t[k + 3]);
+    for &[b3, b2, b1, b0] in t.array_windows::<4>() {
+        e |= lane(b3, b2, b1, b0);
     }
     e < 0x80
 }
 
 // Does each of the 128 bytes behind the first three stand well? By the quickest test; not by the slowest where only low bytes
 // are asked for.
-fn right(t: &[u8], low: bool) -> bool
-    requires { 131 ≤ length t.now }
+fn right(t: &[u8; 131], low: bool) -> bool
     ensures { result ≡ true → Stand t.now 128 }
 {
-    let m = top(t);
-    if m < 0x80 {
-        return true;
+    match top(t) {
+        0..0x80 => true,
+        0x80..0xE0 => right_by(t, |_, _, b1, b0| lane_two(b1, b0)),
+        0xE0..0xF0 => right_by(t, |_, b2, b1, b0| lane_three(b2, b1, b0)),
+        0xF0.. => !low && right_by(t, lane_four),
     }
-    if m < 0xE0 {
-        return right_two(t);
-    }
-    if m < 0xF0 {
-        return right_three(t);
-    }
-    if low {
-        return false;
-    }
-    right_four(t)
-}
-
-// At most both of them.
-fn smaller(a: u8, b: u8) -> u8
-    ensures { (result ≤ a) × (result ≤ b) }
-{
-    if a < b { a } else { b }
 }
 
 // A place where the test there is not below 0x80, and else one behind all places.
 fn place(e: u8, k: u8) -> u8
     ensures { k < result → e < 0x80 }
 {
-    if e < 0x80 { 255 } else { k }
+    if e < 0x80 { u8::MAX } else { k }
 }
 
-// So many of the n bytes behind the first three stand well. There may be more.
-fn right_to(t: &[u8], n: usize) -> usize
-    requires { (n < 256) × (n + 3 ≤ length t.now) }
-    ensures { (result ≤ n) × Stand t.now result }
+// So many of the bytes behind the first three stand well. There may be more.
+fn right_to(t: &[u8]) -> usize
+    requires { (3 ≤ length t.now) × (length t.now < 259) }
+    ensures { (result + 3 ≤ length t.now) × Stand t.now result }
 {
-    let mut m = n as u8;
-    for k in 0..n {
-        let e = lane_four(t[k], t[k + 1], t[k + 2], t[k + 3]);
-        m = smaller(m, place(e, k as u8));
+    let mut m = (t.len() - 3) as u8;
+    for (k, &[b3, b2, b1, b0]) in t.array_windows::<4>().enumerate() {
+        m = m.min(place(lane_four(b3, b2, b1, b0), k as u8));
     }
     m as usize
 }
@@ -182,9 +126,8 @@ fn wide_blocks(text: &[u8], from: usize, low: bool) -> usize
     ensures { (3 ≤ result) × Good text.now result }
 {
     let mut at = from;
-    while 128 <= text.len() - at {
-        let a = at - 3;
-        if !right(&text[a..], low) {
+    while let Some(block) = text[at - 3..].first_chunk() {
+        if !right(block, low) {
             return at;
         }
         at += 128;
@@ -198,18 +141,10 @@ fn wide_last(text: &[u8], at: usize) -> usize
     requires { (3 ≤ at) × Good text.now at }
     ensures { (3 ≤ result) × Good text.now result }
 {
-    let n = text.len();
-    if n < 131 {
-        return at;
+    match text.last_chunk() {
+        Some(block) if text.len() - at < 128 && right(block, true) => text.len(),
+        _ => at,
     }
-    if 128 <= n - at {
-        return at;
-    }
-    let a = n - 131;
-    if right(&text[a..], true) {
-        return n;
-    }
-    at
 }
 
 // So many bytes of a text stand well, by blocks of a size from a place up to which they do as far as a bound. There may be more.
@@ -218,12 +153,8 @@ fn slim_blocks(text: &[u8], from: usize, bound: usize, size: usize) -> usize
     ensures { Good text.now result }
 {
     let mut at = from;
-    while size <= text.len() - at {
-        if bound <= at {
-            return at;
-        }
-        let a = at - 3;
-        let n = right_to(&text[a..], size);
+    while at < bound && size <= text.len() - at {
+        let n = right_to(&text[at - 3..at + size]);
         if n < size {
             return at + n;
         }
@@ -239,14 +170,10 @@ fn slim_last(text: &[u8], at: usize, size: usize) -> usize
     ensures { Good text.now result }
 {
     let n = text.len();
-    if at == n {
+    if at == n || size <= n - at {
         return at;
     }
-    if size <= n - at {
-        return at;
-    }
-    let a = n - (size + 3);
-    if right_to(&text[a..], size) == size {
+    if right_to(&text[n - size - 3..]) == size {
         return n;
     }
     at
@@ -281,16 +208,11 @@ fn by_length(text: &[u8], from: usize) -> usize
     slim_last(text, far, 32)
 }
 
-// Are the first n bytes of a text all below 0x80?
-fn ascii_first(t: &[u8], n: usize) -> bool
-    requires { n ≤ length t.now }
-    ensures { result ≡ true → Below t.now n 0x80 }
+// Are they all below 0x80? Without a stop at the first that is not, as std's `is_ascii` has.
+fn is_low(t: &[u8]) -> bool
+    ensures { result ≡ true → Below t.now (length t.now) 0x80 }
 {
-    let mut all: u8 = 0;
-    for k in 0..n {
-        all |= t[k];
-    }
-    all < 0x80
+    t.iter().fold(0, |all, &b| all | b) < 0x80
 }
 
 // So many bytes at the start of a text are below 0x80, by blocks of a size from a place up to which they are, and one at the end
@@ -301,17 +223,13 @@ fn ascii_blocks(text: &[u8], from: usize, size: usize) -> usize
 {
     let n = text.len();
     let mut at = from;
-    while size <= n - at {
-        if !ascii_first(&text[at..], size) {
+    while let Some(block) = text.get(at..at + size) {
+        if !is_low(block) {
             return at;
         }
         at += size;
     }
-    if at == n {
-        return at;
-    }
-    let a = n - size;
-    if ascii_first(&text[a..], size) {
+    if at < n && is_low(&text[n - size..]) {
         return n;
     }
     at
@@ -327,7 +245,7 @@ fn ascii(text: &[u8]) -> usize
     if n < 64 {
         return ascii_blocks(text, 0, 16);
     }
-    if !ascii_first(text, 64) {
+    if !is_low(&text[..64]) {
         return 0;
     }
     if n < 256 {
@@ -339,18 +257,12 @@ fn ascii(text: &[u8]) -> usize
 
 // Do the first three bytes of a text stand well?
 fn right_first(text: &[u8]) -> bool
-    requires { 3 ≤ length text.now }
     ensures { result ≡ true → Good text.now 3 }
 {
-    let a = text[0];
-    let b = text[1];
-    if !crate::stands::stand(0, 0, 0, a) {
+    let &[a, b, c, ..] = text else {
         return false;
-    }
-    if !crate::stands::stand(0, 0, a, b) {
-        return false;
-    }
-    crate::stands::stand(0, a, b, text[2])
+    };
+    stand(0, 0, 0, a) && stand(0, 0, a, b) && stand(0, a, b, c)
 }
 
 // So many bytes at the start of a text stand well. There may be more.
@@ -379,21 +291,16 @@ fn onward(text: &[u8], from: usize) -> usize
     requires { Good text.now from }
     ensures { result ≡ standing text.now }
 {
-    let mut b3 = crate::stands::byte_before(text, from, 3);
-    let mut b2 = crate::stands::byte_before(text, from, 2);
-    let mut b1 = crate::stands::byte_before(text, from, 1);
-    let mut at = from;
-    while at < text.len() {
-        let b0 = text[at];
-        if !crate::stands::stand(b3, b2, b1, b0) {
-            return at;
+    let mut b3 = byte_before(text, from, 3);
+    let mut b2 = byte_before(text, from, 2);
+    let mut b1 = byte_before(text, from, 1);
+    for (i, &b0) in text[from..].iter().enumerate() {
+        if !stand(b3, b2, b1, b0) {
+            return from + i;
         }
-        b3 = b2;
-        b2 = b1;
-        b1 = b0;
-        at += 1;
+        (b3, b2, b1) = (b2, b1, b0);
     }
-    at
+    text.len()
 }
 
 // How many bytes at the start of a text stand well, each behind the three before it?

@@ -7,8 +7,8 @@ pub returns : goal.returns
 returns c =
     λ h l b3 b2 l2 l3.
     let a = c.args in
-    let e = c.less.ensures in
-    stands_is b3 b2 a.b1 a.b0 c.less.result
+    let e = c.saturating_sub.ensures in
+    stands_is b3 b2 a.b1 a.b0 c.saturating_sub.result
     (c.asked.ensures (or_left c.asked.result c.overlong.result h))
     (λ g. omega (arith, e))
     (λ g. absurd (omega arith))

@@ -1,20 +1,32 @@
 -- `right_to` meets its contract: each byte so far stands well that is before the least place found.
 use native.Mathlib.Omega.{arith}
-use Rattle.utf8_scan.proofs.StandMore.{stands_at, stand_to_more}
+use mathlib.Core.Path.{◌≡◌}
+use mathlib.Core.Bool.{true}
+use Rattle.utf8_scan.specs.Stands.{stands}
+use Rattle.utf8_scan.proofs.StandMore.{stand_to_more}
+use Rattle.utf8_scan.proofs.WindowWalk.{ahead_same, ahead-next, ahead-end}
 use Rattle.utf8_scan.proofs.right_to.Goals as goal
-
-pub loop-k-init : goal.loop-k-init
-loop-k-init c = (omega arith, omega arith, λ j l. absurd (omega arith))
 
 pub loop-k-preserved : goal.loop-k-preserved
 loop-k-preserved c =
     let t = c.args.t.now in
-    let k = c.loop-k.k in (
-      omega arith,
-      omega (arith, c.smaller-m.ensures.0),
-      stand_to_more t k c.loop-k.m c.smaller-m.result c.loop-k.invariant.2 c.smaller-m.ensures.0
-          (λ h. stands_at t k (c.lane_four-e.ensures (c.place.ensures (omega (arith, c.smaller-m.ensures.1))))),
+    let i = c.loop-k.k-iterator.count in
+    let s = c.loop-k.k-iterator.iter.parts in
+    let u = c.next.new.self.iter.parts in
+    let a = c.loop-k.invariant.0 in
+    let w = c.in-Some.field-0-1 in
+    let n = c.in-Some.ensures.steps in
+    rw n.2 (
+      ahead-next t i s u a w n.0,
+      omega (arith, c.min-m.ensures, c.loop-k.invariant.1),
+      stand_to_more t i c.loop-k.m c.min-m.result c.loop-k.invariant.2 (omega (arith, c.min-m.ensures))
+          (λ h. ahead_same t i s u a w n.0 (λ b3 b2 b1 b0. stands b3 b2 b1 b0 ≡ true)
+          (c.lane_four.ensures (c.place.ensures (omega (arith, n.1, c.min-m.ensures, h))))),
     )
 
 pub returns : goal.returns
-returns c = (c.loop-k.invariant.1, λ j h. c.loop-k.invariant.2 j (omega arith) h)
+returns c =
+    let t = c.args.t.now in
+    let i = c.loop-k.k-iterator.count in
+    let end = ahead-end t i c.loop-k.k-iterator.iter.parts _ c.loop-k.invariant.0 c.in-None.ensures.steps.0 in
+    (c.loop-k.invariant.1, λ j h. c.loop-k.invariant.2 j (omega (arith, end, c.loop-k.invariant.1)) h)

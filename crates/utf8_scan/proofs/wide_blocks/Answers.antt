@@ -1,26 +1,20 @@
 -- `wide_blocks` meets its contract: each block goes on where the text stood well so far.
 use Prim.Native.Nat.{◌+◌, ◌-◌}
+use mathlib.Core.Path.{subst, ◌∙◌}
 use native.Mathlib.Omega.{arith}
-use lib.ListN.{length-take, length-drop}
+use lib.ListN.{length, drop}
+use lib.Seq.{take-take}
+use Rattle.utf8_scan.specs.Inside.Blocks.{Stand}
 use Rattle.utf8_scan.proofs.StandMore.{good_block}
 use Rattle.utf8_scan.proofs.wide_blocks.Goals as goal
 
-pub loop-at-init : goal.loop-at-init
-loop-at-init c = c.requires
-
-pub right-requires : goal.right-requires
-right-requires c = simp (length-take, length-drop) (omega arith)
-
-pub returns-then-not-right : goal.returns-then-not-right
-returns-then-not-right c = c.loop-at.invariant
-
-pub loop-at-preserved : goal.loop-at-preserved
-loop-at-preserved c =
-    let n = c.loop-at.at in (
+pub loop-block-preserved : goal.loop-block-preserved
+loop-block-preserved c =
+    let text = c.args.text.now in
+    let at = c.loop-block.at in
+    let chunk = c.in-Some.ensures.cases in
+    let same = chunk.same ∙ take-take 131 (length text - (at - 3)) (drop (at - 3) text) (omega (arith, chunk.enough)) in (
       omega arith,
-      good_block c.args.text.now n (n - 3) 128 (n + 128) c.loop-at.invariant.1 (omega arith) (omega arith) (omega arith)
-          (c.right.ensures c.if-not-right.false),
+      good_block text at (at - 3) 131 128 (at + 128) c.loop-block.invariant.1 (omega arith) (omega arith) (omega arith) (omega arith)
+          (subst (λ b. Stand b 128) same (c.right.ensures c.if-not-right.false)),
     )
-
-pub returns : goal.returns
-returns c = c.loop-at.invariant

@@ -6,6 +6,10 @@ use Rattle.utf8_scan.specs.Stands.{stands}
 abbrev pub StandsIn : List ℕ → Type 0
 StandsIn z = stands (get_or z 0 0) (get_or z 1 0) (get_or z 2 0) (get_or z 3 0) ≡ true
 
+-- a test of four bytes is below 0x80 only where the last of them stands well
+abbrev pub Sound : (ℕ → ℕ → ℕ → ℕ → ℕ → Type 0) → List ℕ → Type 0
+Sound test z = (e : ℕ) → test (get_or z 0 0) (get_or z 1 0) (get_or z 2 0) (get_or z 3 0) e → e < 0x80 → StandsIn z
+
 -- each of the n bytes behind the first three does
 abbrev pub Stand : List ℕ → ℕ → Type 0
 Stand z n = (k : ℕ) → k < n → StandsIn (drop k z)
