@@ -9,6 +9,7 @@ use lib.Seq.{drop-drop, take-add}
 use lib.Dec.{eqb}
 use borrow.Author.Tests.{le-ltb, le-leb, lt-leb}
 use native.Mathlib.Omega.{arith}
+use Rattle.std.specs.Prelude.{Result, Ok, Err}
 use Rattle.theory.specs.Reader.{cut}
 use Rattle.theory.specs.Tally.{written}
 use Rattle.theory.specs.Place.{last, mark}
@@ -24,8 +25,6 @@ use Rattle.place.specs.Measures.{ruler, reader}
 use Rattle.place.specs.Lookup.{four_counts, told_placed}
 use Rattle.place.specs.Walk.{reached, last_says}
 use Rattle.place.specs.declared.Place.{Place}
-use Rattle.place.specs.declared.Placed.{Placed}
-use Rattle.place.specs.declared.Placed.TheVariants.{At, Refused}
 use Rattle.place.proofs.MeasuresRise.{measured}
 use Rattle.place.proofs.ToldBack.{told_counts}
 use Rattle.index_checkpoint.specs.Checkpoints.{spacing, width, needed, checkpoint}
@@ -94,16 +93,16 @@ module _ {text row : List ℕ} {k : ℕ} {p : Place} (a : Audited text row k p) 
   audited-end h = let z : marks spacing (length text) - k ≡ 0 = omega arith in rw (a.left, z)
 
   -- what the walk to the next mark told
-  module _ (r : Placed) (told : told_placed r ≡ last_says (λ p. p.bytes) (spacing * k) p (take (length text - p.bytes) (drop p.bytes text))) where
+  module _ (r : Result Place Refusal) (told : told_placed r ≡ last_says (λ p. p.bytes) (spacing * k) p (take (length text - p.bytes) (drop p.bytes text))) where
     told-mark : told_placed r ≡ 0 ∷ four_counts (mark reader ruler (spacing * k) text)
     told-mark = told ∙ mark-told text a.within (spacing * k) a.place a.before
 
-    pub audited-found : (q : Place) → r ≡ At q → q ≡ mark reader ruler (spacing * k) text
+    pub audited-found : (q : Place) → r ≡ Ok q → q ≡ mark reader ruler (spacing * k) text
     audited-found q e =
         let f : 0 ∷ four_counts q ≡ 0 ∷ four_counts (mark reader ruler (spacing * k) text) = ap told_placed (sym e) ∙ told-mark in
         told_counts q (mark reader ruler (spacing * k) text) (cc)
 
-    pub audited-refused : (w : Refusal) → r ≡ Refused w → ⊥
+    pub audited-refused : (w : Refusal) → r ≡ Err w → ⊥
     audited-refused w e =
         let f : told_refusal w ≡ 0 ∷ four_counts (mark reader ruler (spacing * k) text) = ap told_placed (sym e) ∙ told-mark in
         true≢false (sym (ap (λ (l : List ℕ). eqb (get_or l 0 0) 0) f) ∙ no_zero w)

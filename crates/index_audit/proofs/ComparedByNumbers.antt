@@ -50,7 +50,7 @@ same_append [] (y ∷ ys) us vs e = absurd (omega arith)
 same_append (x ∷ xs) [] us vs e = absurd (omega arith)
 same_append (x ∷ xs) (y ∷ ys) us vs e = rw (same_append xs ys us vs (omega arith)) (sym (and_assoc (eqb x y) (same xs ys) (same us vs)))
 
--- the four tests that compare two places
+-- the tests that compare two places
 pub same-places : (p q : Place)
-    → eqb p.bytes q.bytes && eqb p.units q.units && eqb p.points q.points && eqb p.lines q.lines ≡ same (four_counts p) (four_counts q)
-same-places p q = simp (and_assoc, and-true)
+    → eqb p.bytes q.bytes && (eqb p.units q.units && (eqb p.points q.points && eqb p.lines q.lines)) ≡ same (four_counts p) (four_counts q)
+same-places p q = simp and-true

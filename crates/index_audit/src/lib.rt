@@ -2,21 +2,11 @@
 #![tactic(auto)]
 
 ghost use Rattle.std.specs.Prelude.{◌≡◌};
-ghost use Rattle.place.specs.Lookup.{four_counts};
-ghost use Rattle.index_checkpoint.specs.Checkpoints.{checkpoint};
-ghost use Rattle.index_audit.specs.Audits.{same, audit_says};
+ghost use Rattle.index_audit.specs.Audits.{audit_says};
 
 use index_checkpoint::SPACING;
-use place::{Bytes, Offset, Place, Placed};
+use place::{Bytes, Offset, Place};
 use terms::Decoder;
-
-// Checkpoint k has the counts of a place.
-fn agrees(row: &[u32], k: usize, p: Place) -> bool
-    ensures { result ≡ same (four_counts (checkpoint row.now k)) (four_counts p) }
-{
-    let q = index_checkpoint::checkpoint(row, k);
-    (q.bytes == p.bytes) & (q.units == p.units) & (q.points == p.points) & (q.lines == p.lines)
-}
 
 // The audit: the text is within the limit, the index is long enough, and each of its checkpoints is the last place at or
 // before its byte, to which the text is walked from the one before.
@@ -31,20 +21,10 @@ pub fn audit(text: &[u8], row: &[u32]) -> bool
     }
     let n = index_checkpoint::marks(text.len());
     let mut p = Place::start();
-    let mut k: usize = 0;
-    while k < n {
-        let at = p.bytes;
-        match place_cut::last(&text[at..], p, Offset::Byte(Bytes(SPACING * k))) {
-            Placed::At(q) => {
-                if !agrees(row, k, q) {
-                    return false;
-                }
-                p = q;
-                k += 1;
-            }
-            Placed::Refused(_) => {
-                return false;
-            }
+    for k in 0..n {
+        match place_cut::last(&text[p.bytes..], p, Offset::Byte(Bytes(SPACING * k))) {
+            Ok(q) if index_checkpoint::checkpoint(row, k) == q => p = q,
+            _ => return false,
         }
     }
     true

@@ -7,11 +7,14 @@ use native.Mathlib.Omega.{arith}
 use Rattle.theory.specs.Place.{mark}
 use Rattle.theory.specs.Index.{marks}
 use Rattle.place.specs.Measures.{ruler, reader}
-use Rattle.index_checkpoint.specs.Checkpoints.{spacing}
+use Rattle.place.specs.Lookup.{four_counts}
+use Rattle.index_checkpoint.specs.Checkpoints.{spacing, checkpoint}
+use Rattle.index_audit.specs.Audits.{same}
+use Rattle.index_audit.proofs.ComparedByNumbers.{same-places}
 use Rattle.index_audit.proofs.CheckpointByCheckpoint.{audit-over, audit-short, audited-start, audited-in, audited-end}
 use Rattle.index_audit.proofs.CheckpointByCheckpoint.{audited-found, audited-refused, audited-no, audited-next}
 use borrow.Author.Rules.{rules}
-use Rattle.index_audit.proofs.audit.Goals.{In-At, In-loop-k}
+use Rattle.index_audit.proofs.audit.Goals.{In-Ok, In-loop-k, After-eq}
 use Rattle.index_audit.proofs.audit.Goals as goal
 
 pub returns-then-text-gt-LIMIT : goal.returns-then-text-gt-LIMIT
@@ -42,29 +45,30 @@ pub overflow_mul-k : goal.overflow_mul-k
 overflow_mul-k c = omega (arith, more (goal.at.overflow_mul-k c).In-loop-k, c.loop-k.invariant.within)
 
 -- the last place at or before the checkpoint's byte
-found : (c : In-At)
-    → c.in-At.q ≡ mark reader ruler (spacing * c.loop-k.k) c.args.text.now
+found : (c : In-Ok)
+    → c.in-Ok.q ≡ mark reader ruler (spacing * c.loop-k.k) c.args.text.now
 found c =
-    audited-found c.loop-k.invariant c.last.result c.last.ensures c.in-At.q c.in-At.is
+    audited-found c.loop-k.invariant c.last.result c.last.ensures c.in-Ok.q c.in-Ok.is
 
-pub returns-then-not-agrees : goal.returns-then-not-agrees
-returns-then-not-agrees c =
-    audited-no c.loop-k.invariant (more (goal.at.returns-then-not-agrees c).In-loop-k) _ (found (goal.at.returns-then-not-agrees c).In-At) (sym c.agrees.ensures ∙ c.if-not-agrees.true)
+-- whether the index has its counts
+compared : (c : After-eq)
+    → c.eq.result ≡ same (four_counts (checkpoint c.args.row.now c.loop-k.k)) (four_counts c.in-Ok.q)
+compared c =
+    c.eq.ensures ∙ same-places c.checkpoint.result c.in-Ok.q ∙ rw c.checkpoint.ensures
 
-pub overflow_add-k : goal.overflow_add-k
-overflow_add-k c = let i = more (goal.at.overflow_add-k c).In-loop-k in omega arith
+pub returns-in_default : goal.returns-in_default
+returns-in_default c =
+    let at = goal.at.returns-in_default c in
+    audited-no c.loop-k.invariant (more at.In-loop-k) _ (found at.In-Ok) (sym (compared at.After-eq) ∙ c.if-eq.false)
 
-pub loop-k-smaller : goal.loop-k-smaller
-loop-k-smaller c = let i = more (goal.at.loop-k-smaller c).In-loop-k in omega arith
+pub returns-in_default-2 : goal.returns-in_default-2
+returns-in_default-2 c =
+    absurd (audited-refused c.loop-k.invariant c.last.result c.last.ensures c.in_default.field-0 c.in_default.is)
 
 pub loop-k-preserved : goal.loop-k-preserved
 loop-k-preserved c =
-    let k = c.loop-k.k in
-    rw (add-one k) (audited-next c.loop-k.invariant (more (goal.at.loop-k-preserved c).In-loop-k) _ (found (goal.at.loop-k-preserved c).In-At) (sym c.agrees.ensures ∙ c.if-not-agrees.false))
-
-pub returns-in-Refused : goal.returns-in-Refused
-returns-in-Refused c =
-    absurd (audited-refused c.loop-k.invariant c.last.result c.last.ensures c.in-Refused.field-0 c.in-Refused.is)
+    let at = goal.at.loop-k-preserved c in
+    rw (add-one c.loop-k.k) (audited-next c.loop-k.invariant (more at.In-loop-k) _ (found at.In-Ok) (sym (compared at.After-eq) ∙ c.if-eq.true))
 
 pub returns : goal.returns
 returns c = audited-end c.loop-k.invariant (rw (← c.marks-n.ensures) c.loop-k-test.false)
