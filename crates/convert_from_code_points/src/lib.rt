@@ -12,19 +12,18 @@ ghost use Rattle.convert_point.specs.Target.{form_of};
 ghost use Rattle.convert_point.specs.Puts.{Puts};
 
 use convert_point::Target;
-use terms::{Checked, Refusal, Written};
+use terms::Refusal;
 
 // How many places a text takes in another form.
 fn need(text: &[u32], target: Target) -> usize
     requires { length text.now ≤ limit }
     ensures { result ≡ length (converted code_points (form_of target) text.now) }
 {
-    let mut at: usize = 0;
+    let mut rest = text;
     let mut total: usize = 0;
-    while at < text.len() {
-        let p = code_points::point(&text[at..]);
+    while let Some(p) = code_points::point(rest) {
         total += convert_point::places(target, p.number);
-        at += p.size;
+        rest = &rest[p.size..];
     }
     total
 }
@@ -34,12 +33,11 @@ fn write_bytes(text: &[u32], out: &mut [u8]) -> usize
     requires { length (converted code_points utf8 text.now) ≤ length out.old }
     ensures { Puts (converted code_points utf8 text.now) out.old out.new result }
 {
-    let mut at: usize = 0;
+    let mut rest = text;
     let mut done: usize = 0;
-    while at < text.len() {
-        let p = code_points::point(&text[at..]);
+    while let Some(p) = code_points::point(rest) {
         done += convert_point::put_bytes(&mut out[done..], p.number);
-        at += p.size;
+        rest = &rest[p.size..];
     }
     done
 }
@@ -49,18 +47,17 @@ fn write_units(text: &[u32], out: &mut [u16]) -> usize
     requires { length (converted code_points utf16 text.now) ≤ length out.old }
     ensures { Puts (converted code_points utf16 text.now) out.old out.new result }
 {
-    let mut at: usize = 0;
+    let mut rest = text;
     let mut done: usize = 0;
-    while at < text.len() {
-        let p = code_points::point(&text[at..]);
+    while let Some(p) = code_points::point(rest) {
         done += convert_point::put_units(&mut out[done..], p.number);
-        at += p.size;
+        rest = &rest[p.size..];
     }
     done
 }
 
 // The text as bytes, or its need where the output has no room for them.
-fn fit_bytes(text: &[u32], out: &mut [u8]) -> Written
+fn fit_bytes(text: &[u32], out: &mut [u8]) -> Result<usize, Refusal>
     requires { length text.now ≤ limit }
     ensures { Writes
         (roomed (length out.old) (converted code_points utf8 text.now))
@@ -71,13 +68,13 @@ fn fit_bytes(text: &[u32], out: &mut [u8]) -> Written
 {
     let bytes = need(text, Target::Bytes);
     if out.len() < bytes {
-        return Written::Refused(Refusal::NoRoom { needed: bytes });
+        return Err(Refusal::NoRoom { needed: bytes });
     }
-    Written::Count(write_bytes(text, out))
+    Ok(write_bytes(text, out))
 }
 
 // The text as units, or its need where the output has no room for them.
-fn fit_units(text: &[u32], out: &mut [u16]) -> Written
+fn fit_units(text: &[u32], out: &mut [u16]) -> Result<usize, Refusal>
     requires { length text.now ≤ limit }
     ensures { Writes
         (roomed (length out.old) (converted code_points utf16 text.now))
@@ -88,13 +85,13 @@ fn fit_units(text: &[u32], out: &mut [u16]) -> Written
 {
     let units = need(text, Target::Units);
     if out.len() < units {
-        return Written::Refused(Refusal::NoRoom { needed: units });
+        return Err(Refusal::NoRoom { needed: units });
     }
-    Written::Count(write_units(text, out))
+    Ok(write_units(text, out))
 }
 
 // The text as bytes; strict, so that a number that is no scalar value is refused.
-pub fn to_bytes(text: &[u32], out: &mut [u8]) -> Written
+pub fn to_bytes(text: &[u32], out: &mut [u8]) -> Result<usize, Refusal>
     ensures { Writes
         (convert_says no_scalar code_points utf8 (length out.old) text.now)
         (converted code_points utf8 text.now)
@@ -102,14 +99,12 @@ pub fn to_bytes(text: &[u32], out: &mut [u8]) -> Written
         out.new
         result }
 {
-    match code_points::check(text) {
-        Checked::WellFormed => fit_bytes(text, out),
-        Checked::Refused(r) => Written::Refused(r),
-    }
+    code_points::check(text)?;
+    fit_bytes(text, out)
 }
 
 // The text as units; strict, so that a number that is no scalar value is refused.
-pub fn to_units(text: &[u32], out: &mut [u16]) -> Written
+pub fn to_units(text: &[u32], out: &mut [u16]) -> Result<usize, Refusal>
     ensures { Writes
         (convert_says no_scalar code_points utf16 (length out.old) text.now)
         (converted code_points utf16 text.now)
@@ -117,8 +112,6 @@ pub fn to_units(text: &[u32], out: &mut [u16]) -> Written
         out.new
         result }
 {
-    match code_points::check(text) {
-        Checked::WellFormed => fit_units(text, out),
-        Checked::Refused(r) => Written::Refused(r),
-    }
+    code_points::check(text)?;
+    fit_units(text, out)
 }
