@@ -5,11 +5,11 @@ use mathlib.Core.List.{List, [], ◌∷◌}
 use lib.ListN.{length, take}
 use lib.Seq.{length-take-le}
 use native.Mathlib.Omega.{arith}
-use Rattle.terms.specs.Form.{replacement, converted, point_says}
+use Rattle.terms.specs.Form.{replacement, converted, first_point, point_says}
 use Rattle.terms.specs.Told.{told_first, size_of, first_says}
 use Rattle.terms.specs.declared.First.{First}
 use Rattle.terms.specs.declared.First.TheVariants.{Nothing, Whole, Damage, Begun}
-use Rattle.terms.proofs.PointTold.{Pointed, point-whole, point-damage, point-begun}
+use Rattle.terms.proofs.PointTold.{Pointed, of_point, point_read, point-whole, point-damage, point-begun}
 use Rattle.terms.proofs.WalkBySegments.{nothing_seen}
 use Rattle.utf8.specs.Bytes.{bytes}
 use Rattle.utf8.specs.Scalar.{number, sequence, utf8}
@@ -26,6 +26,10 @@ again text n p =
     let s = p.seen_as in
     rw (s.text-is, s.long-is) (utf8-faithful.reads.again s.head s.tail s.kind-is)
 
+-- what was read, in the numbers in which it is told
+in-numbers : (text : List ℕ) (c n : ℕ) → of_point c n ≡ first_point utf8 text → c ∷ n ∷ [] ≡ point_says utf8 text
+in-numbers text c n e = (point_read utf8 text (record { number = c; size = n }) e).1
+
 -- ---- what the segment reader told, as a code point that takes so many places
 
 pub record Standing (text : List ℕ) (r : First) : Type 0 where
@@ -37,27 +41,27 @@ pub standing : (text : List ℕ) (r : First) → 0 < length text → told_first 
 standing text Nothing some told = absurd (omega (arith, ap length (nothing_seen bytes text told)))
 standing text (Whole n) some told =
     let p = point-whole utf8 bytes_division text (Whole n) told n refl in
-    record { point = number (take n text); says = p.says; places = rw (again text n p) (length-take-le n text p.inside) }
-standing text (Damage n c) some told = record { point = replacement; says = point-damage utf8 bytes_division text (Damage n c) told n c refl; places = refl }
-standing text (Begun n) some told = record { point = replacement; says = point-begun utf8 bytes_division text (Begun n) told n refl; places = refl }
+    record { point = number (take n text); says = in-numbers text _ n p.says; places = rw (again text n p) (length-take-le n text p.inside) }
+standing text (Damage n c) some told = record { point = replacement; says = in-numbers text replacement n (point-damage utf8 bytes_division text (Damage n c) told n c refl); places = refl }
+standing text (Begun n) some told = record { point = replacement; says = in-numbers text replacement n (point-begun utf8 bytes_division text (Begun n) told n refl); places = refl }
 
 -- ---- and as it is written
 
 module _ (text : List ℕ) (some : 0 < length text) (n : ℕ) where
   module _ (p : Pointed utf8 text n) where
     pub whole_room : (out : List ℕ) → length (converted utf8 utf8 text) ≤ length out → length (take n text) ≤ length out
-    whole_room out h = rw (again text n p) at (point-room utf8-faithful utf8 text some n (number (take n text)) p.says out h)
+    whole_room out h = rw (again text n p) at (point-room utf8-faithful utf8 text some n (number (take n text)) (in-numbers text _ n p.says) out h)
 
     pub whole-passes : (out out' : List ℕ) (passed put : ℕ) → (passed ≡ length (take n text)) × Puts (take n text) out out' put
         → PassesTo utf8 utf8 text out out' passed put
     whole-passes out out' passed put q =
         let e : passed ≡ n = omega (arith, q.0, length-take-le n text p.inside) in
-        rw e (point-passes utf8-faithful utf8 text some n (number (take n text)) p.says out out' put (rw (again text n p) q.1))
+        rw e (point-passes utf8-faithful utf8 text some n (number (take n text)) (in-numbers text _ n p.says) out out' put (rw (again text n p) q.1))
 
-  module _ (says : replacement ∷ n ∷ [] ≡ point_says utf8 text) where
+  module _ (says : of_point replacement n ≡ first_point utf8 text) where
     pub damage-room : (out : List ℕ) → length (converted utf8 utf8 text) ≤ length out → 3 ≤ length out
-    damage-room = point-room utf8-faithful utf8 text some n replacement says
+    damage-room = point-room utf8-faithful utf8 text some n replacement (in-numbers text replacement n says)
 
     pub damage-passes : (out out' : List ℕ) (passed put : ℕ) → (passed ≡ n) × Puts (sequence replacement) out out' put
         → PassesTo utf8 utf8 text out out' passed put
-    damage-passes out out' passed put q = rw q.0 (point-passes utf8-faithful utf8 text some n replacement says out out' put q.1)
+    damage-passes out out' passed put q = rw q.0 (point-passes utf8-faithful utf8 text some n replacement (in-numbers text replacement n says) out out' put q.1)

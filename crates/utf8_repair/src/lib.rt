@@ -14,7 +14,7 @@ ghost use Rattle.convert_point.specs.Inside.Passes.{PassesTo};
 ghost use Rattle.utf8_repair.specs.Inside.Places.{places_of};
 
 use convert_point::Target;
-use terms::{Decoder, First, Refusal, Written};
+use terms::{Decoder, First, Refusal};
 use utf8_check::Pace;
 
 // How many bytes a segment has in repaired form.
@@ -148,7 +148,7 @@ fn write_bytes(text: &[u8], run: usize, out: &mut [u8]) -> usize
 }
 
 // A text with no damage stays as it is, and is not looked at a second time.
-fn repair_whole(text: &[u8], out: &mut [u8]) -> Written
+fn repair_whole(text: &[u8], out: &mut [u8]) -> Result<usize, Refusal>
     ensures { Writes
         (roomed (length out.old) text.now)
         text.now
@@ -158,14 +158,14 @@ fn repair_whole(text: &[u8], out: &mut [u8]) -> Written
 {
     let bytes = text.len();
     if out.len() < bytes {
-        return Written::Refused(Refusal::NoRoom { needed: bytes });
+        return Err(Refusal::NoRoom { needed: bytes });
     }
     copy::copy(text, out);
-    Written::Count(bytes)
+    Ok(bytes)
 }
 
 // The repaired form of a text: whole segments as they are, U+FFFD for each damage.
-pub fn repair(text: &[u8], out: &mut [u8]) -> Written
+pub fn repair(text: &[u8], out: &mut [u8]) -> Result<usize, Refusal>
     ensures { Writes
         (repair_says (length out.old) text.now (repaired utf8 text.now))
         (repaired utf8 text.now)
@@ -174,18 +174,18 @@ pub fn repair(text: &[u8], out: &mut [u8]) -> Written
         result }
 {
     if Decoder::LIMIT < text.len() {
-        return Written::Refused(Refusal::OverLimit);
+        return Err(Refusal::OverLimit);
     }
     let run = utf8_check::whole_run(text);
     if convert_point::most(Target::Bytes, Target::Bytes, text.len()) <= out.len() {
-        return Written::Count(write_bytes(text, run, out));
+        return Ok(write_bytes(text, run, out));
     }
     if run == text.len() {
         return repair_whole(text, out);
     }
     let bytes = need_bytes(text, run);
     if out.len() < bytes {
-        return Written::Refused(Refusal::NoRoom { needed: bytes });
+        return Err(Refusal::NoRoom { needed: bytes });
     }
-    Written::Count(write_bytes(text, run, out))
+    Ok(write_bytes(text, run, out))
 }

@@ -1,12 +1,11 @@
 -- Each arm is a law of what the segment takes: a whole one its own bytes, a damage those of U+FFFD.
 use mathlib.Core.Path.{◌≡◌, sym, ap, ◌∙◌}
-use mathlib.Core.List.{[], ◌∷◌}
 use lib.ListN.{length}
 use lib.Seq.{length-take-le}
 use native.Mathlib.Omega.{arith}
-use Rattle.terms.specs.Form.{replacement, point_says}
+use Rattle.terms.specs.Form.{replacement, first_point}
 use Rattle.terms.specs.Told.{told_first, first_says}
-use Rattle.terms.proofs.PointTold.{Pointed, point-whole, point-damage, point-begun}
+use Rattle.terms.proofs.PointTold.{Pointed, of_point, point-whole, point-damage, point-begun}
 use Rattle.terms.proofs.WalkBySegments.{nothing_seen}
 use Rattle.utf8.specs.Bytes.{bytes}
 use Rattle.utf8.specs.Scalar.{utf8}
@@ -37,7 +36,7 @@ pass-requires c =
 
 -- a damage
 damaged : (c : In-Damage) → told_first c.segment_by.result ≡ first_says bytes c.args.text.now
-    → replacement ∷ c.in-Damage.n ∷ [] ≡ point_says utf8 c.args.text.now
+    → of_point replacement c.in-Damage.n ≡ first_point utf8 c.args.text.now
 damaged c told = point-damage utf8 bytes_division c.args.text.now _ told _ _ c.in-Damage.is
 
 pub mark-requires : goal.mark-requires
@@ -48,7 +47,7 @@ mark-requires c =
 
 -- a damage that ends the text
 begun : (c : In-Begun) → told_first c.segment_by.result ≡ first_says bytes c.args.text.now
-    → replacement ∷ c.in-Begun.n ∷ [] ≡ point_says utf8 c.args.text.now
+    → of_point replacement c.in-Begun.n ≡ first_point utf8 c.args.text.now
 begun c told = point-begun utf8 bytes_division c.args.text.now _ told _ c.in-Begun.is
 
 pub mark-requires-in-Begun : goal.mark-requires-in-Begun
