@@ -1,11 +1,10 @@
 -- The viewer's numbers from what the calls told.
 use mathlib.Core.Path.{◌≡◌, refl}
-use Prim.Native.Nat.{ℕ, ◌+◌, ◌*◌, ◌-◌, ◌≤◌}
+use Prim.Native.Nat.{ℕ, ◌≤◌}
 use mathlib.Core.Bool.{false}
 use mathlib.Core.List.{List, [], ◌∷◌}
 use lib.ListN.{length, get_or}
 use lib.Dec.{ltb}
-use borrow.Author.Tests.{ne_eqb}
 use native.Mathlib.Omega.{arith}
 use Rattle.theory.specs.Table.{Kind, cause_of}
 use Rattle.theory.specs.Tally.{Entry}
@@ -14,23 +13,9 @@ use Rattle.terms.specs.Limits.{limit}
 use Rattle.terms.specs.Strict.{damages, check_says}
 use Rattle.terms.specs.Told.{told_refusal}
 use Rattle.terms.specs.declared.Refusal.{Refusal}
-use Rattle.terms.proofs.ToldBack.{no_zero}
 use Rattle.terms.proofs.WalkBySegments.{damage_within}
 use Rattle.utf8.specs.Bytes.{bytes}
-use Rattle.viewer.specs.Replies.{largest, Small, check_number, repair_number}
-
-module _ (r : Refusal) where
-  pub reply-damaged : get_or (told_refusal r) 0 0 ≡ 1 → 4 * get_or (told_refusal r) 1 0 + get_or (told_refusal r) 2 0 ≡ check_number (told_refusal r)
-  reply-damaged e = rw e
-
-  pub reply-other : (get_or (told_refusal r) 0 0 ≡ 1 → ⊥) → largest ≡ check_number (told_refusal r)
-  reply-other e = rw (no_zero r, ne_eqb (get_or (told_refusal r) 0 0) 1 e)
-
-  pub reply-room : get_or (told_refusal r) 0 0 ≡ 3 → largest - 1 ≡ repair_number (told_refusal r)
-  reply-room e = rw e
-
-  pub reply-over : (get_or (told_refusal r) 0 0 ≡ 3 → ⊥) → largest ≡ repair_number (told_refusal r)
-  reply-over e = rw (no_zero r, ne_eqb (get_or (told_refusal r) 0 0) 3 e)
+use Rattle.viewer.specs.Replies.{Small}
 
 -- what the check refuses is small
 abbrev SmallNumbers : List ℕ → Type 0

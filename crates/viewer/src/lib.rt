@@ -5,23 +5,17 @@ ghost use Rattle.std.specs.Prelude.{◌≡◌};
 ghost use Rattle.terms.specs.Told.{told_refusal};
 ghost use Rattle.viewer.specs.Replies.{Small, check_number, check_reply, repair_number, Repairs};
 
-use terms::{Checked, Refusal, Written};
-
-fn wide(n: usize) -> u64
-    ensures { result ≡ n }
-{
-    n as u64
-}
+use terms::Refusal;
 
 // The check's reply for a refusal.
 fn refused(r: Refusal) -> u64
     requires { Small r }
     ensures { result ≡ check_number (told_refusal r) }
 {
-    if r.number() == 1 {
-        return 4 * wide(r.first_value()) + wide(r.second_value());
+    match r {
+        Refusal::Damaged { start, length, .. } => 4 * start as u64 + length as u64,
+        _ => u64::MAX,
     }
-    0xFFFF_FFFF_FFFF_FFFF
 }
 
 // 0 if a text is well-formed, else 4 × start + length of its first damage; the largest number where it is over the limit.
@@ -30,8 +24,8 @@ pub extern "C" fn moxandril_check(text: &[u8]) -> u64
     ensures { result ≡ check_reply text.now }
 {
     match utf8_check::check(text) {
-        Checked::WellFormed => 0,
-        Checked::Refused(r) => refused(r),
+        Ok(()) => 0,
+        Err(r) => refused(r),
     }
 }
 
@@ -39,10 +33,10 @@ pub extern "C" fn moxandril_check(text: &[u8]) -> u64
 fn unwritten(r: Refusal) -> u64
     ensures { result ≡ repair_number (told_refusal r) }
 {
-    if r.number() == 3 {
-        return 0xFFFF_FFFF_FFFF_FFFE;
+    match r {
+        Refusal::NoRoom { .. } => u64::MAX - 1,
+        _ => u64::MAX,
     }
-    0xFFFF_FFFF_FFFF_FFFF
 }
 
 // The bytes written; the largest number where the text is over the limit, one less where the output has no room for them.
@@ -51,7 +45,7 @@ pub extern "C" fn moxandril_repair(text: &[u8], out: &mut [u8]) -> u64
     ensures { Repairs text.now out.old out.new result }
 {
     match utf8_repair::repair(text, out) {
-        Written::Count(n) => wide(n),
-        Written::Refused(r) => unwritten(r),
+        Ok(n) => n as u64,
+        Err(r) => unwritten(r),
     }
 }

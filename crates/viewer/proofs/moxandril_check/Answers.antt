@@ -7,11 +7,11 @@ use Rattle.viewer.proofs.moxandril_check.Goals as goal
 
 pub refused-requires : goal.refused-requires
 refused-requires c =
-    small c.args.text.now c.in-Refused.r (ap told_checked (sym c.in-Refused.is) ∙ c.check.ensures)
+    small c.args.text.now c.in-Err.r (ap told_checked (sym c.in-Err.is) ∙ c.check.ensures)
 
-pub returns-in-WellFormed : goal.returns-in-WellFormed
-returns-in-WellFormed c = ap check_number (ap told_checked (sym c.in-WellFormed.is) ∙ c.check.ensures)
+pub returns-in-Ok : goal.returns-in-Ok
+returns-in-Ok c = ap check_number (ap told_checked (sym c.in-Ok.is) ∙ c.check.ensures)
 
-pub returns-in-Refused : goal.returns-in-Refused
-returns-in-Refused c =
-    c.refused.ensures ∙ ap check_number (ap told_checked (sym c.in-Refused.is) ∙ c.check.ensures)
+pub returns-in-Err : goal.returns-in-Err
+returns-in-Err c =
+    c.refused.ensures ∙ ap check_number (ap told_checked (sym c.in-Err.is) ∙ c.check.ensures)

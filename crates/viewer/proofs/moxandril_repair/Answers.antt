@@ -4,10 +4,10 @@ use Rattle.terms.specs.Told.{told_written}
 use Rattle.viewer.specs.Replies.{repair_number}
 use Rattle.viewer.proofs.moxandril_repair.Goals as goal
 
-pub returns-in-Count : goal.returns-in-Count
-returns-in-Count c =
-    record { reply = c.wide.ensures ∙ ap repair_number (ap told_written (sym c.in-Count.is) ∙ c.repair.ensures.answer); output = c.repair.ensures.output }
+pub returns-in-Ok : goal.returns-in-Ok
+returns-in-Ok c =
+    record { reply = ap repair_number (ap told_written (sym c.in-Ok.is) ∙ c.repair.ensures.answer); output = c.repair.ensures.output }
 
-pub returns-in-Refused : goal.returns-in-Refused
-returns-in-Refused c =
-    record { reply = c.unwritten.ensures ∙ ap repair_number (ap told_written (sym c.in-Refused.is) ∙ c.repair.ensures.answer); output = c.repair.ensures.output }
+pub returns-in-Err : goal.returns-in-Err
+returns-in-Err c =
+    record { reply = c.unwritten.ensures ∙ ap repair_number (ap told_written (sym c.in-Err.is) ∙ c.repair.ensures.answer); output = c.repair.ensures.output }
