@@ -1,15 +1,15 @@
 -- Line ends over parts of a text: byte by byte and part by part, few, and none that begins with a later byte.
 use mathlib.Core.Path.{◌≡◌, refl, sym, ap, ◌∙◌}
-use Prim.Native.Nat.{ℕ, zero, suc, ◌+◌, ◌-◌, ◌≤◌, ◌<◌}
-use native.Mathlib.Nat.{zero-add, add-zero}
+use Prim.Native.Nat.{ℕ, zero, suc, ◌+◌, ◌-◌, ◌≤◌, ◌<◌, min}
+use native.Mathlib.Nat.{zero-add}
 use mathlib.Core.Bool.{Bool, true, false, cond}
 use mathlib.Core.List.{List, [], ◌∷◌, ◌++◌}
-use lib.ListN.{length, get_or, drop}
-use lib.Seq.{drop-drop, drop-length, get_or-drop}
+use lib.ListN.{length, get_or, take, drop, length-drop}
+use lib.Seq.{drop-drop, drop-length, get_or-take}
 use lib.Dec.{leb, ltb, eqb}
 use borrow.Author.Tests.{leb-true, ltb-true, ne_eqb}
 use native.Mathlib.Omega.{arith}
-use Rattle.theory.proofs.Cases.{split, both}
+use Rattle.theory.proofs.Cases.{split, under, both}
 use Rattle.utf8_scan.specs.Stands.{is_later}
 use Rattle.utf8_count.specs.Counts.{end_of, end_first, ends_in}
 use Rattle.utf8_count.specs.Inside.Ends.{short_end, long_of}
@@ -90,20 +90,22 @@ ends-split n m text h =
 pub ends-one : (n : ℕ) (text : List ℕ) → ends_in (n + 1) text ≡ ends_in n text + end_first (drop n text)
 ends-one n text = omega (arith, ends_add n 1 text)
 
-pub ends_next : (n : ℕ) (text : List ℕ)
-    → ends_in (n + 1) text ≡ ends_in n text + end_of (get_or text n 0) (get_or (drop 1 text) n 0) (get_or (drop 2 text) n 0)
-ends_next n text =
-    let one : n + 1 ≡ 1 + n = omega arith in
-    let two : n + 2 ≡ 2 + n = omega arith in
-    rw (ends-one n text, get_or-drop n text 0 0, get_or-drop n text 1 0, get_or-drop n text 2 0, add-zero n, get_or-drop 1 text n 0, get_or-drop 2 text n 0, one, two)
-
 -- there is nothing behind the end
-pub ends-over : (n : ℕ) (text : List ℕ) → length text ≤ n → ends_in n text ≡ ends_in (length text) text
+ends-over : (n : ℕ) (text : List ℕ) → length text ≤ n → ends_in n text ≡ ends_in (length text) text
 ends-over n text h =
     let m : ℕ = n - length text in
     let e : n ≡ length text + m = omega arith in
     let z : ends_in m (drop (length text) text) ≡ 0 = rw (drop-length text) (ends-nothing m) in
     ap (λ (k : ℕ). ends_in k text) e ∙ omega (arith, ends_add (length text) m text, z)
+
+pub ends-min : (n : ℕ) (text : List ℕ) → ends_in (min n (length text)) text ≡ ends_in n text
+ends-min n text = under n (length text)
+    (λ h.
+    let e : min n (length text) ≡ n = omega arith in
+    ap (λ (k : ℕ). ends_in k text) e)
+    (λ h.
+    let e : min n (length text) ≡ length text = omega arith in
+    ap (λ (k : ℕ). ends_in k text) e ∙ sym (ends-over n text h))
 
 -- ---- where a line end begins
 
@@ -112,27 +114,65 @@ pub ends-laters : (ys zs : List ℕ) → Laters ys → ends_in (length ys) (ys +
 ends-laters [] zs a = refl
 ends-laters (y ∷ ys) zs a = omega (arith, end_later y (get_or (ys ++ zs) 0 0) (get_or (ys ++ zs) 1 0) a.0, ends-laters ys zs a.1)
 
--- ---- counted byte by byte, as long as none is longer than a byte
+-- ---- counted by each byte and the two behind it: those of a row but for a part that is left, and for the last two bytes
 
-pub record Short (text : List ℕ) (n ends long : ℕ) : Type 0 where
-  pub ends-at-most : ends ≤ n
-  pub long-at-most : long ≤ n
-  pub ends-are : long ≡ 0 → ends ≡ ends_in n text
+ends-first : (left : List ℕ) → 3 ≤ length left
+    → ends_in (length left - 2) left ≡ end_first left + ends_in (length (drop 1 left) - 2) (drop 1 left)
+ends-first left h =
+    let e : length left - 2 ≡ suc (length (drop 1 left) - 2) = omega (arith, h, length-drop 1 left) in
+    ap (λ (k : ℕ). ends_in k left) e
 
-pub short_none : (text : List ℕ) → Short text 0 0 0
-short_none text = record { ends-at-most = omega arith; long-at-most = omega arith; ends-are = λ z. refl }
+-- a byte and the two behind it
+pub record Three (left item : List ℕ) : Type 0 where
+  pub enough : 3 ≤ length left
+  pub same : item ≡ take 3 left
 
-pub short-next : (text : List ℕ) (n ends long : ℕ) → Short text n ends long
-    → let x = get_or text n 0 in Short text (n + 1) (ends + short_end x (get_or (drop 1 text) n 0)) (long + long_of x)
-short-next text n ends long s =
-    let x : ℕ = get_or text n 0 in
-    let y : ℕ = get_or (drop 1 text) n 0 in
-    let z : ℕ = get_or (drop 2 text) n 0 in
+module _ (left item : List ℕ) (t : Three left item) where
+  item_at : (i : ℕ) → i < 3 → get_or item i 0 ≡ get_or left i 0
+  item_at i h = ap (λ (xs : List ℕ). get_or xs i 0) t.same ∙ get_or-take 3 left i 0 h
+
+  item-first : end_of (get_or item 0 0) (get_or item 1 0) (get_or item 2 0) ≡ end_first left
+  item-first = rw (item_at 0 (omega arith), item_at 1 (omega arith), item_at 2 (omega arith))
+
+pub record Passed (row left : List ℕ) (ends : ℕ) : Type 0 where
+  pub ends-are : ends + ends_in (length left - 2) left ≡ ends_in (length row - 2) row
+
+pub passed-none : (row : List ℕ) → Passed row row 0
+passed-none row = record { ends-are = omega arith }
+
+module _ (row left : List ℕ) (ends : ℕ) (p : Passed row left ends) where
+  pub passed-next : (item : List ℕ) → Three left item
+      → Passed row (drop 1 left) (ends + end_of (get_or item 0 0) (get_or item 1 0) (get_or item 2 0))
+  passed-next item t = record { ends-are = omega (arith, p.ends-are, ends-first left t.enough, item-first left item t) }
+
+  pub passed-few : ends ≤ length row - 2
+  passed-few = omega (arith, p.ends-are, ends-few (length row - 2) row)
+
+  pub passed-all : length left < 3 → ends ≡ ends_in (length row - 2) row
+  passed-all h =
+      let e : length left - 2 ≡ 0 = omega arith in
+      let z : ends_in (length left - 2) left ≡ 0 = rw e refl in
+      omega (arith, p.ends-are, z)
+
+-- as long as none is longer than a byte
+pub record Short (row left : List ℕ) (ends long : ℕ) : Type 0 where
+  pub ends-at-most : ends + (length left - 2) ≤ length row - 2
+  pub long-at-most : long + (length left - 2) ≤ length row - 2
+  pub ends-are : long ≡ 0 → Passed row left ends
+
+pub short_none : (row : List ℕ) → Short row row 0 0
+short_none row = record { ends-at-most = omega arith; long-at-most = omega arith; ends-are = λ z. passed-none row }
+
+pub short-next : (row left : List ℕ) (ends long : ℕ) → Short row left ends long → (item : List ℕ) → Three left item
+    → Short row (drop 1 left) (ends + short_end (get_or item 0 0) (get_or item 1 0)) (long + long_of (get_or item 0 0))
+short-next row left ends long s item t =
+    let x : ℕ = get_or item 0 0 in
+    let y : ℕ = get_or item 1 0 in
+    let l = length-drop 1 left in
     record {
-      ends-at-most = omega (arith, s.ends-at-most, short-few x y);
-      long-at-most = omega (arith, s.long-at-most, long-few x);
+      ends-at-most = omega (arith, s.ends-at-most, short-few x y, t.enough, l);
+      long-at-most = omega (arith, s.long-at-most, long-few x, t.enough, l);
       ends-are = λ none.
-          let a : ends ≡ ends_in n text = s.ends-are (omega arith) in
-          let b : end_of x y z ≡ short_end x y = end_short x y z (omega arith) in
-          rw (ends_next n text, b, a);
+          let e : end_of x y (get_or item 2 0) ≡ short_end x y = end_short x y (get_or item 2 0) (omega arith) in
+          rw e at (passed-next row left ends (s.ends-are (omega arith)) item t);
     }

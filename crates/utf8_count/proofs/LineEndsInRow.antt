@@ -1,9 +1,9 @@
 -- A part of a text in a row that is filled up with 0: its line ends.
 use mathlib.Core.Path.{◌≡◌, refl, sym, ap, ◌∙◌}
 use Prim.Native.Nat.{ℕ, zero, suc, ◌+◌, ◌-◌, ◌≤◌, ◌<◌, min}
-use mathlib.Core.List.{List, []}
-use lib.ListN.{length, get_or, drop, set, replicate, length-set, get_or-eq_default}
-use lib.Seq.{get_or-drop, get_or-set_same, get_or-set_other}
+use mathlib.Core.List.{List, [], ◌++◌}
+use lib.ListN.{length, get_or, take, drop, replicate, get_or-append, get_or-eq_default}
+use lib.Seq.{get_or-take, get_or-drop, get_or-append_right, length-take-le}
 use native.Mathlib.Omega.{arith}
 use Rattle.theory.proofs.Cases.{under}
 use Rattle.utf8_count.specs.Counts.{end_first, ends_in}
@@ -17,6 +17,9 @@ same_ends (suc n) a b h =
     let e : end_first a ≡ end_first b = rw (h 0 (omega arith), h 1 (omega arith), h 2 (omega arith)) in
     omega (arith, e, same_ends n (drop 1 a) (drop 1 b) (λ i l. get_or-drop 1 a i 0 ∙ h (1 + i) (omega arith) ∙ sym (get_or-drop 1 b i 0)))
 
+pub ends-take : (n : ℕ) (text : List ℕ) → ends_in n (take (n + 2) text) ≡ ends_in n text
+ends-take n text = same_ends n (take (n + 2) text) text (λ i l. get_or-take (n + 2) text i 0 l)
+
 -- 0 ends no line
 zero-ends : (n : ℕ) (row : List ℕ) → ZeroFrom 0 row → ends_in n row ≡ 0
 zero-ends n row z = same_ends n row [] (λ i l. z i (omega arith)) ∙ ends-nothing n
@@ -29,32 +32,29 @@ row_ends n row h z =
     ap (λ (k : ℕ). ends_in k row) (sym e)
     ∙ omega (arith, ends_add n (2 + m) row, ends_add 2 m (drop n row), zero-ends m (drop 2 (drop n row)) o)
 
--- ---- a row in which the first i bytes of a text are there
-
-pub record InRow (text row : List ℕ) (i : ℕ) : Type 0 where
-  pub long : length row ≡ 130
-  pub there : (j : ℕ) → j < i → get_or row j 0 ≡ get_or text j 0
-  pub behind : ZeroFrom i row
+-- ---- a row that has the first m bytes of a text, and 0 behind them
 
 zeros : (n i : ℕ) → ◌≡◌ {A = ℕ} (get_or (replicate n 0) i 0) 0
 zeros zero i = refl
 zeros (suc n) zero = refl
 zeros (suc n) (suc i) = zeros n i
 
-pub row-none : (text : List ℕ) → InRow text (replicate 130 0) 0
-row-none text = record { long = refl; there = λ j l. absurd (omega arith); behind = λ i l. zeros 130 i }
+module _ (text front : List ℕ) (m : ℕ) (h : m ≤ length text) (e : front ≡ take m text) where
+  long : length front ≡ m
+  long = ap length e ∙ length-take-le m text h
 
-pub row_next : (text row : List ℕ) (i : ℕ) → InRow text row i → i < 130 → InRow text (set row i (get_or text i 0)) (i + 1)
-row_next text row i r h = record {
-  long = length-set row i (get_or text i 0) ∙ r.long;
-  there = λ j l. under j i
-      (λ k. get_or-set_other row i j (get_or text i 0) 0 (omega arith) ∙ r.there j k)
-      (λ k.
-      let e : j ≡ i = omega arith in
-      rw e (get_or-set_same row i (get_or text i 0) 0 (omega (arith, r.long))));
-  behind = λ j l. get_or-set_other row i j (get_or text i 0) 0 (omega arith) ∙ r.behind j (omega arith);
-}
+  there : (tail : List ℕ) (i : ℕ) → i < m → get_or (front ++ tail) i 0 ≡ get_or text i 0
+  there tail i l =
+      get_or-append front tail 0 i (omega (arith, long))
+      ∙ ap (λ (xs : List ℕ). get_or xs i 0) e
+      ∙ get_or-take m text i 0 l
 
-pub row_is : (text row : List ℕ) (n i : ℕ) → InRow text row i → i ≡ min (n + 2) (length text) → ends_in n row ≡ ends_in n text
-row_is text row n i r e = same_ends n row text (λ j l. under j i (λ k. r.there j k)
-    (λ k. r.behind j k ∙ sym (get_or-eq_default text 0 {n = j} (omega arith))))
+  pub row_behind : (n : ℕ) → ZeroFrom m (front ++ drop m (replicate n 0))
+  row_behind n i l =
+      get_or-append_right front (drop m (replicate n 0)) i 0 (omega (arith, long))
+      ∙ get_or-drop m (replicate n 0) (i - length front) 0
+      ∙ zeros n (m + (i - length front))
+
+  pub row_is : (n k : ℕ) → m ≡ min (n + 2) (length text) → ends_in n (front ++ drop m (replicate k 0)) ≡ ends_in n text
+  row_is n k s = same_ends n (front ++ drop m (replicate k 0)) text (λ j l. under j m (λ u. there (drop m (replicate k 0)) j u)
+      (λ u. row_behind k j u ∙ sym (get_or-eq_default text 0 {n = j} (omega arith))))

@@ -4,7 +4,7 @@
 
 mod lines;
 
-ghost use Rattle.std.specs.Prelude.{◌≡◌, ◌≤◌, length, take};
+ghost use Rattle.std.specs.Prelude.{◌≡◌, ◌+◌, ◌^◌, ◌<◌, ◌≤◌, length};
 ghost use Rattle.utf8_count.specs.Counts.{start_of, four_of, sums_of};
 
 pub use lines::{end_first, line_ends};
@@ -16,44 +16,45 @@ pub struct Sums {
     pub fours: usize,
 }
 
+impl Sums {
+    fn plus(self, more: Sums) -> Sums
+        requires { (self.starts + more.starts < 2 ^ 64) × (self.fours + more.fours < 2 ^ 64) }
+        ensures { result ≡ record { starts = self.starts + more.starts; fours = self.fours + more.fours } }
+    {
+        Sums {
+            starts: self.starts + more.starts,
+            fours: self.fours + more.fours,
+        }
+    }
+}
+
+// One for a byte that is no later byte.
 fn start_of(b: u8) -> u8
     ensures { result ≡ start_of b }
 {
-    if b < 0x80 {
-        return 1;
-    }
-    if b < 0xC0 {
-        return 0;
-    }
-    1
+    u8::from(!matches!(b, 0x80..=0xBF))
 }
 
+// One for a byte that begins a sequence of four.
 fn four_of(b: u8) -> u8
     ensures { result ≡ four_of b }
 {
-    if 0xF0 <= b { 1 } else { 0 }
+    u8::from(0xF0 <= b)
 }
 
-fn wide(n: u8) -> usize
-    ensures { result ≡ n }
-{
-    n as usize
-}
-
-// The first 128 bytes.
-fn block(text: &[u8]) -> Sums
-    requires { 128 ≤ length text.now }
-    ensures { result ≡ sums_of (take 128 text.now) }
+// Those of a block. Each sum fits a byte, so that the loop is as wide as can be.
+fn block(text: &[u8; 128]) -> Sums
+    ensures { result ≡ sums_of text.now }
 {
     let mut starts: u8 = 0;
     let mut fours: u8 = 0;
-    for k in 0..128 {
-        starts += start_of(text[k]);
-        fours += four_of(text[k]);
+    for b in text {
+        starts += start_of(*b);
+        fours += four_of(*b);
     }
     Sums {
-        starts: wide(starts),
-        fours: wide(fours),
+        starts: usize::from(starts),
+        fours: usize::from(fours),
     }
 }
 
@@ -63,11 +64,7 @@ fn rest(text: &[u8]) -> Sums
     ensures { result ≡ sums_of text.now }
 {
     let mut row = [0x80u8; 128];
-    let mut i: usize = 0;
-    while i < text.len() {
-        row[i] = text[i];
-        i += 1;
-    }
+    row[..text.len()].copy_from_slice(text);
     block(&row)
 }
 
@@ -75,21 +72,17 @@ fn rest(text: &[u8]) -> Sums
 pub fn count(text: &[u8]) -> Sums
     ensures { result ≡ sums_of text.now }
 {
-    let mut starts: usize = 0;
-    let mut fours: usize = 0;
-    let mut at: usize = 0;
-    while 128 <= text.len() - at {
-        let s = block(&text[at..]);
-        starts += s.starts;
-        fours += s.fours;
-        at += 128;
+    let mut sums = Sums {
+        starts: 0,
+        fours: 0,
+    };
+    let mut left = text;
+    while let Some((row, behind)) = left.split_first_chunk::<128>() {
+        sums = sums.plus(block(row));
+        left = behind;
     }
-    if at == text.len() {
-        return Sums { starts, fours };
+    if left.is_empty() {
+        return sums;
     }
-    let s = rest(&text[at..]);
-    Sums {
-        starts: starts + s.starts,
-        fours: fours + s.fours,
-    }
+    sums.plus(rest(left))
 }

@@ -1,79 +1,48 @@
 -- `count` meets its contract: the sums of the blocks passed, and of the rest.
-use Prim.Native.Nat.{◌+◌, ◌-◌}
-use lib.ListN.{length, length-drop}
+use mathlib.Core.Path.{sym, ◌∙◌}
+use Prim.Native.Nat.{◌+◌}
+use lib.ListN.{drop}
 use native.Mathlib.Omega.{arith}
-use Rattle.terms.proofs.WalkBySegments.{part_is}
-use Rattle.utf8_count.proofs.CountsByBlocks.{Counted, counted_none, counted-more, counted-all}
-use Rattle.utf8_count.proofs.count.Goals.{After-block-s, After-rest-s}
+use borrow.Author.Tests.{eqb-true}
+use Rattle.utf8_count.proofs.CountsByBlocks.{Counted, counted_none, counted-more, counted-few, counted-all, counted_whole, counted-fits}
+use Rattle.utf8_count.proofs.count.Goals.{After-block}
 use Rattle.utf8_count.proofs.count.Goals as goal
 
-pub loop-at-init : goal.loop-at-init
-loop-at-init c = counted_none c.args.text.now
-
-pub block-s-requires : goal.block-s-requires
-block-s-requires c =
-    let text = c.args.text.now in
-    rw (part_is text c.loop-at.at) (omega (arith, length-drop c.loop-at.at text, c.loop-at-test.true))
+pub loop-row-init : goal.loop-row-init
+loop-row-init c = counted_none c.args.text.now
 
 -- a block more
-blocked : (c : After-block-s)
-    → let s = c.block-s.result in
-    Counted c.args.text.now (c.loop-at.at + 128)
-    (c.loop-at.starts + s.starts) (c.loop-at.fours + s.fours)
+blocked : (c : After-block)
+    → let s = c.loop-row.sums in
+    let q = c.block.result in
+    Counted c.args.text.now (drop 128 c.loop-row.left.now) (s.starts + q.starts) (s.fours + q.fours)
 blocked c =
-    let text = c.args.text.now in
-    counted-more text c.loop-at.at c.loop-at.starts c.loop-at.fours c.loop-at.invariant 128
-    (omega (arith, c.loop-at-test.true)) c.block-s.result (rw (part_is text c.loop-at.at) at c.block-s.ensures)
+    let s = c.loop-row.sums in
+    counted-more c.args.text.now c.loop-row.left.now s.starts s.fours c.loop-row.invariant 128 c.block.result
+    (rw c.in-Some.ensures.cases.0 at c.block.ensures)
 
-pub overflow_add-starts : goal.overflow_add-starts
-overflow_add-starts c =
-    let b = blocked (goal.at.overflow_add-starts c).After-block-s in omega (arith, b.starts-few, b.inside, c.well_formed)
+pub plus-sums-requires : goal.plus-sums-requires
+plus-sums-requires c =
+    let few = counted-few _ _ _ _ (blocked (goal.at.plus-sums-requires c).After-block) in
+    (omega (arith, few.0, c.well_formed), omega (arith, few.1, c.well_formed))
 
-pub overflow_add-fours : goal.overflow_add-fours
-overflow_add-fours c =
-    let b = blocked (goal.at.overflow_add-fours c).After-block-s in omega (arith, b.fours-few, b.inside, c.well_formed)
+pub loop-row-preserved : goal.loop-row-preserved
+loop-row-preserved c =
+    rw (c.plus-sums.ensures, c.in-Some.ensures.cases.1) (blocked (goal.at.loop-row-preserved c).After-block)
 
-pub overflow_add-at : goal.overflow_add-at
-overflow_add-at c =
-    let b = blocked (goal.at.overflow_add-at c).After-block-s in
-    omega (arith, b.inside, c.well_formed)
+pub plus-requires : goal.plus-requires
+plus-requires c =
+    let s = c.loop-row.sums in
+    let fits = counted-fits c.args.text.now c.loop-row.left.now s.starts s.fours c.loop-row.invariant c.rest.result c.rest.ensures in
+    (omega (arith, fits.0, c.well_formed), omega (arith, fits.1, c.well_formed))
 
-pub loop-at-smaller : goal.loop-at-smaller
-loop-at-smaller c = let b = blocked (goal.at.loop-at-smaller c).After-block-s in omega (arith, b.inside)
-
-pub loop-at-preserved : goal.loop-at-preserved
-loop-at-preserved c = blocked (goal.at.loop-at-preserved c).After-block-s
-
-pub returns-then-at-text : goal.returns-then-at-text
-returns-then-at-text c =
-    counted-all c.args.text.now c.loop-at.at c.loop-at.starts c.loop-at.fours c.loop-at.invariant c.if-at-text.true
-
-pub rest-s-requires : goal.rest-s-requires
-rest-s-requires c =
-    let text = c.args.text.now in
-    rw (part_is text c.loop-at.at) (omega (arith, length-drop c.loop-at.at text, c.loop-at-test.false))
-
--- all of the text
-ended : (c : After-rest-s)
-    → let text = c.args.text.now in
-    let s = c.rest-s.result in
-    Counted text (c.loop-at.at + (length text - c.loop-at.at)) (c.loop-at.starts + s.starts) (c.loop-at.fours + s.fours)
-ended c =
-    let text = c.args.text.now in
-    counted-more text c.loop-at.at c.loop-at.starts c.loop-at.fours c.loop-at.invariant
-    (length text - c.loop-at.at) (omega (arith, c.loop-at.invariant.inside)) c.rest-s.result c.rest-s.ensures
-
-pub overflow_add-result : goal.overflow_add-result
-overflow_add-result c =
-    let b = ended (goal.at.overflow_add-result c).After-rest-s in omega (arith, b.starts-few, b.inside, c.well_formed)
-
-pub overflow_add-result-2 : goal.overflow_add-result-2
-overflow_add-result-2 c =
-    let b = ended (goal.at.overflow_add-result-2 c).After-rest-s in omega (arith, b.fours-few, b.inside, c.well_formed)
+pub returns-then-is_empty : goal.returns-then-is_empty
+returns-then-is_empty c =
+    let s = c.loop-row.sums in
+    counted_whole c.args.text.now c.loop-row.left.now s.starts s.fours c.loop-row.invariant
+    (eqb-true _ 0 (sym c.is_empty.ensures ∙ c.if-is_empty.true))
 
 pub returns : goal.returns
 returns c =
-    let text = c.args.text.now in
-    let s = c.rest-s.result in
-    counted-all text (c.loop-at.at + (length text - c.loop-at.at))
-    (c.loop-at.starts + s.starts) (c.loop-at.fours + s.fours) (ended (goal.at.returns c).After-rest-s) (omega (arith, c.loop-at.invariant.inside))
+    let s = c.loop-row.sums in
+    c.plus.ensures ∙ counted-all c.args.text.now c.loop-row.left.now s.starts s.fours c.loop-row.invariant c.rest.result c.rest.ensures

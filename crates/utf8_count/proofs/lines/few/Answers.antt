@@ -12,22 +12,22 @@ pub returns-then-m-lt16 : goal.returns-then-m-lt16
 returns-then-m-lt16 c = c.slow.ensures
 
 pub filled-requires : goal.filled-requires
-filled-requires c = omega (arith, c.smaller-m.ensures)
+filled-requires c = omega (arith, c.min-m.ensures)
 
 pub slice_bounds-slow-count : goal.slice_bounds-slow-count
-slice_bounds-slow-count c = omega (arith, c.smaller-m.ensures, c.smaller.ensures)
+slice_bounds-slow-count c = omega (arith, c.min-m.ensures, c.min.ensures)
 
 pub slice_bounds-slow-start : goal.slice_bounds-slow-start
-slice_bounds-slow-start c = omega (arith, c.smaller-m.ensures, c.smaller.ensures)
+slice_bounds-slow-start c = omega (arith, c.min-m.ensures, c.min.ensures)
 
 pub overflow_sub-n : goal.overflow_sub-n
-overflow_sub-n c = omega (arith, c.smaller-m.ensures, c.smaller.ensures)
+overflow_sub-n c = omega (arith, c.min-m.ensures, c.min.ensures)
 
 both : (c : After-slow-2)
     → c.filled.result + c.slow-2.result ≡ ends_in c.args.n c.args.text.now
 both c =
-    rw (c.filled.ensures, c.slow-2.ensures, part_is c.args.text.now c.smaller-m.result)
-    (ends-split c.args.n c.smaller-m.result c.args.text.now (omega (arith, c.smaller-m.ensures, c.smaller.ensures)))
+    rw (c.filled.ensures, c.slow-2.ensures, part_is c.args.text.now c.min-m.result)
+    (ends-split c.args.n c.min-m.result c.args.text.now (omega (arith, c.min-m.ensures, c.min.ensures)))
 
 pub overflow_add-result : goal.overflow_add-result
 overflow_add-result c =
