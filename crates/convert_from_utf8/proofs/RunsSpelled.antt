@@ -1,15 +1,18 @@
 -- Runs of whole segments in the walks that count and write units: what is counted and spelled at once.
 use mathlib.Core.Path.{◌≡◌, refl, sym, ap, ◌∙◌}
-use Prim.Native.Nat.{ℕ, ◌+◌, ◌-◌, ◌≤◌, ◌<◌}
+use Prim.Native.Nat.{ℕ, ◌+◌, ◌-◌, ◌≤◌}
 use mathlib.Core.List.{List, [], ◌∷◌, append-nil}
 use lib.ListN.{length, take, drop, length-drop}
 use lib.Seq.{drop-drop}
 use native.Mathlib.Nat.{zero-add}
 use native.Mathlib.Omega.{arith}
 use Rattle.theory.specs.Reader.{cut}
-use Rattle.terms.specs.Form.{converted, point_says}
+use Rattle.std.specs.Prelude.{Option, Some, None}
+use Rattle.terms.specs.Form.{Form, converted, first_point}
 use Rattle.terms.specs.Strict.{damages}
 use Rattle.terms.proofs.ConvertsBack.{whole-none}
+use Rattle.terms.specs.declared.Point.{Point}
+use Rattle.terms.proofs.PointTold.{point_read}
 use Rattle.terms.proofs.WalkBySegments.{part_is}
 use Rattle.terms.proofs.WalkWrites.{Met, met, Passed, left, left_end, Counted, counted_start, summed-on, Wrote, wrote-start, lent, back, back_is, filled-room, filled_on}
 use Rattle.utf8.specs.Bytes.{bytes}
@@ -42,6 +45,14 @@ pub record Writing (table text out₀ out rest : List ℕ) (done : ℕ) : Type 0
 pub counted-few : (text : List ℕ) (at total : ℕ) → Counted utf8 utf16 text at total → total ≤ length text
 counted-few text at total c = omega (arith, c.same, text_few Bytes Units text)
 
+-- where no code point was read, nothing is left
+pub none-left : (F : Form) (rest : List ℕ) → None ≡ first_point F rest → length rest ≤ 0
+none-left F [] e = omega arith
+none-left F (x ∷ xs) e = absurd (none_some _ e)
+  where
+    none_some : (p : Point) → ◌≡◌ {A = Option Point} None (Some p) → ⊥
+    none_some p e = cc
+
 -- a run has no damage
 pub run_undamaged : (text : List ℕ) (n : ℕ) → Run text n → damages bytes (take n text) ≡ []
 run_undamaged text n r = whole-none 0 (cut bytes (take n text)) r.all
@@ -56,11 +67,11 @@ module _ (text part : List ℕ) (at : ℕ) (is : part ≡ drop at text) where
   part_end = omega (arith, part-long)
 
   -- the code point at its start, by a table that reads what the paper's rows say
-  pub met-there : (table : List ℕ) → by_classes table ≡ bytes → 0 < length part → (n c : ℕ)
-      → c ∷ n ∷ [] ≡ point_says (utf8_by table) part → Met utf8 text at n c
-  met-there table reads h n c told =
-      let k : c ∷ n ∷ [] ≡ point_says utf8 part = told ∙ ap (λ look. point_says (record { look = look; value = number; write = sequence }) part) reads in
-      met utf8-faithful text at (omega (arith, part-long, h)) n c (rw (part_is text at, ← is) k)
+  pub met-there : (table : List ℕ) → by_classes table ≡ bytes → (p : Point) → Some p ≡ first_point (utf8_by table) part
+      → Met utf8 text at p.size p.number
+  met-there table reads p read =
+      let k = point_read utf8 part p (read ∙ ap (λ look. first_point (record { look = look; value = number; write = sequence }) part) reads) in
+      met utf8-faithful text at (omega (arith, part-long, k.0)) p.size p.number (rw (part_is text at, ← is) k.1)
 
   module _ (h : at ≤ length text) where
     -- all of it

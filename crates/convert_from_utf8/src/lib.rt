@@ -16,7 +16,7 @@ ghost use Rattle.convert_from_utf8.specs.Inside.Spell.{spelled};
 
 use convert_point::Target;
 use page::Page;
-use terms::{Checked, Decoder, Refusal, Written};
+use terms::{Decoder, Refusal};
 use utf8_check::Pace;
 
 mod pages;
@@ -30,8 +30,7 @@ fn need_on(text: &[u8]) -> usize
     let mut rest = text;
     let mut total: usize = 0;
     let mut pace = Pace::START;
-    while 0 < rest.len() {
-        let p = utf8::point_by(rest, &utf8::CLASSES);
+    while let Some(p) = utf8::point_by(rest, &utf8::CLASSES) {
         total += convert_point::places(Target::Units, p.number);
         let size = p.size;
         let behind = &rest[size..];
@@ -74,8 +73,7 @@ fn write_on(text: &[u8], out: &mut [u16]) -> usize
     let mut rest = text;
     let mut done: usize = 0;
     let mut pace = Pace::START;
-    while 0 < rest.len() {
-        let p = utf8::point_by(rest, &utf8::CLASSES);
+    while let Some(p) = utf8::point_by(rest, &utf8::CLASSES) {
         done += convert_point::put_units(&mut out[done..], p.number);
         let size = p.size;
         let behind = &rest[size..];
@@ -101,7 +99,7 @@ fn write_units(text: &[u8], out: &mut [u16]) -> usize
 }
 
 // The text as units, with U+FFFD for each damage.
-pub fn repair_to_units(text: &[u8], out: &mut [u16]) -> Written
+pub fn repair_to_units(text: &[u8], out: &mut [u16]) -> Result<usize, Refusal>
     ensures { Writes
         (repair_says (length out.old) text.now (converted utf8 utf16 text.now))
         (converted utf8 utf16 text.now)
@@ -110,20 +108,20 @@ pub fn repair_to_units(text: &[u8], out: &mut [u16]) -> Written
         result }
 {
     if Decoder::LIMIT < text.len() {
-        return Written::Refused(Refusal::OverLimit);
+        return Err(Refusal::OverLimit);
     }
     if convert_point::most(Target::Bytes, Target::Units, text.len()) <= out.len() {
-        return Written::Count(write_units(text, out));
+        return Ok(write_units(text, out));
     }
     let units = need_units(text);
     if out.len() < units {
-        return Written::Refused(Refusal::NoRoom { needed: units });
+        return Err(Refusal::NoRoom { needed: units });
     }
-    Written::Count(write_units(text, out))
+    Ok(write_units(text, out))
 }
 
 // The text as units; strict, so that damage is refused.
-pub fn to_units(text: &[u8], out: &mut [u16]) -> Written
+pub fn to_units(text: &[u8], out: &mut [u16]) -> Result<usize, Refusal>
     ensures { Writes
         (convert_says damaged utf8 utf16 (length out.old) text.now)
         (converted utf8 utf16 text.now)
@@ -131,14 +129,12 @@ pub fn to_units(text: &[u8], out: &mut [u16]) -> Written
         out.new
         result }
 {
-    match utf8_check::check(text) {
-        Checked::WellFormed => crate::spelling::write(text, out),
-        Checked::Refused(r) => Written::Refused(r),
-    }
+    utf8_check::check(text)?;
+    crate::spelling::write(text, out)
 }
 
 // The text as code points; strict, so that damage is refused.
-pub fn to_points(text: &[u8], out: &mut [u32]) -> Written
+pub fn to_points(text: &[u8], out: &mut [u32]) -> Result<usize, Refusal>
     ensures { Writes
         (convert_says damaged utf8 code_points (length out.old) text.now)
         (converted utf8 code_points text.now)
@@ -146,14 +142,12 @@ pub fn to_points(text: &[u8], out: &mut [u32]) -> Written
         out.new
         result }
 {
-    match utf8_check::check(text) {
-        Checked::WellFormed => crate::points::write(text, out),
-        Checked::Refused(r) => Written::Refused(r),
-    }
+    utf8_check::check(text)?;
+    crate::points::write(text, out)
 }
 
 // The text in an old page; strict, so that damage is refused, and then a code point that the page lacks.
-pub fn to_page(text: &[u8], page: Page, out: &mut [u8]) -> Written
+pub fn to_page(text: &[u8], page: Page, out: &mut [u8]) -> Result<usize, Refusal>
     ensures { Writes
         (to_page_says (table_of page) (length out.old) text.now)
         (converted utf8 (paged (table_of page)) text.now)
@@ -161,8 +155,6 @@ pub fn to_page(text: &[u8], page: Page, out: &mut [u8]) -> Written
         out.new
         result }
 {
-    match utf8_check::check(text) {
-        Checked::WellFormed => crate::pages::write(text, page, out),
-        Checked::Refused(r) => Written::Refused(r),
-    }
+    utf8_check::check(text)?;
+    crate::pages::write(text, page, out)
 }

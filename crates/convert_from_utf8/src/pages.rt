@@ -15,7 +15,7 @@ ghost use Rattle.convert_from_utf8.specs.Inside.Held.{Fits, Held, Places};
 
 use crate::spelling::Reach;
 use page::Page;
-use terms::{Refusal, Written};
+use terms::Refusal;
 
 // A number of a page as a code point.
 fn wide(n: u16) -> u32
@@ -168,7 +168,7 @@ fn put(text: &[u8], numbers: &[u16; 256], out: &mut [u8]) -> usize
 }
 
 // The text in the page, which has each of its code points; refused where the output has no room for them.
-fn write_held(text: &[u8], numbers: &[u16; 256], out: &mut [u8]) -> Written
+fn write_held(text: &[u8], numbers: &[u16; 256], out: &mut [u8]) -> Result<usize, Refusal>
     requires page { IsPage numbers.now × Keeps numbers.now }
     requires fits { Fits numbers.now text.now }
     ensures { Writes
@@ -179,17 +179,17 @@ fn write_held(text: &[u8], numbers: &[u16; 256], out: &mut [u8]) -> Written
         result }
 {
     if text.len() <= out.len() {
-        return Written::Count(put(text, numbers, out));
+        return Ok(put(text, numbers, out));
     }
     let places = crate::points::need(text);
     if out.len() < places {
-        return Written::Refused(Refusal::NoRoom { needed: places });
+        return Err(Refusal::NoRoom { needed: places });
     }
-    Written::Count(put(text, numbers, out))
+    Ok(put(text, numbers, out))
 }
 
 // The text in a page; the first code point that the page lacks is refused, and then an output that has no room.
-pub(crate) fn write(text: &[u8], page: Page, out: &mut [u8]) -> Written
+pub(crate) fn write(text: &[u8], page: Page, out: &mut [u8]) -> Result<usize, Refusal>
     requires { damages bytes text.now ≡ [] }
     ensures { Writes
         (held_by (lacking (table_of page) 0 (cut bytes text.now))
@@ -202,7 +202,7 @@ pub(crate) fn write(text: &[u8], page: Page, out: &mut [u8]) -> Written
     let numbers = page::numbers(page);
     let at = held(text, &numbers);
     if at < text.len() {
-        return Written::Refused(Refusal::NotInPage { offset: at });
+        return Err(Refusal::NotInPage { offset: at });
     }
     write_held(text, &numbers, out)
 }

@@ -11,7 +11,7 @@ ghost use Rattle.convert_point.specs.Puts.{Puts};
 ghost use Rattle.convert_from_utf8.specs.Inside.Step.{Steps};
 
 use crate::spelling::Reach;
-use terms::{Point, Refusal, Written};
+use terms::{Point, Refusal};
 
 // A byte as a code point of the same number.
 fn wide(b: u8) -> u32
@@ -133,7 +133,7 @@ pub(crate) fn need(text: &[u8]) -> usize
 }
 
 // The code points of whole segments, at the start of an output; refused where that has no room for them.
-pub(crate) fn write(text: &[u8], out: &mut [u32]) -> Written
+pub(crate) fn write(text: &[u8], out: &mut [u32]) -> Result<usize, Refusal>
     requires { damages bytes text.now ≡ [] }
     ensures { Writes
         (roomed (length out.old) (converted utf8 code_points text.now))
@@ -143,11 +143,11 @@ pub(crate) fn write(text: &[u8], out: &mut [u32]) -> Written
         result }
 {
     if text.len() <= out.len() {
-        return Written::Count(put(text, out));
+        return Ok(put(text, out));
     }
     let points = need(text);
     if out.len() < points {
-        return Written::Refused(Refusal::NoRoom { needed: points });
+        return Err(Refusal::NoRoom { needed: points });
     }
-    Written::Count(put(text, out))
+    Ok(put(text, out))
 }

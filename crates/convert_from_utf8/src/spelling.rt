@@ -11,7 +11,7 @@ ghost use Rattle.convert_from_utf8.specs.Inside.Spell.{two, three, first_half, s
 ghost use Rattle.convert_from_utf8.specs.Inside.Stride.{Strides, Short};
 ghost use Rattle.convert_point.specs.Puts.{Puts};
 
-use terms::{Refusal, Written};
+use terms::Refusal;
 
 // How far a stride or a step went: so many bytes are passed over, and so many places written.
 #[derive(Clone, Copy)]
@@ -300,7 +300,7 @@ pub(crate) fn need(text: &[u8]) -> usize
 }
 
 // The units of whole segments, at the start of an output; refused where that has no room for them.
-pub(crate) fn write(text: &[u8], out: &mut [u16]) -> Written
+pub(crate) fn write(text: &[u8], out: &mut [u16]) -> Result<usize, Refusal>
     requires { damages bytes text.now ≡ [] }
     ensures { Writes
         (roomed (length out.old) (converted utf8 utf16 text.now))
@@ -310,11 +310,11 @@ pub(crate) fn write(text: &[u8], out: &mut [u16]) -> Written
         result }
 {
     if text.len() <= out.len() {
-        return Written::Count(put(text, out));
+        return Ok(put(text, out));
     }
     let units = need(text);
     if out.len() < units {
-        return Written::Refused(Refusal::NoRoom { needed: units });
+        return Err(Refusal::NoRoom { needed: units });
     }
-    Written::Count(put(text, out))
+    Ok(put(text, out))
 }

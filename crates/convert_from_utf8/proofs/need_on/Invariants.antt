@@ -4,8 +4,8 @@ use Rattle.utf8.proofs.ClassesRead.{table}
 use Rattle.convert_from_utf8.proofs.RunsSpelled.{Counting}
 use Rattle.convert_from_utf8.proofs.need_on.Given as goal
 
-abbrev pub invariant-loop-rest : goal.invariant-loop-rest
-invariant-loop-rest l = Counting table l.text l.rest l.total
+abbrev pub invariant-loop-p : goal.invariant-loop-p
+invariant-loop-p l = Counting table l.text l.rest l.total
 
-abbrev pub decreases-loop-rest : goal.decreases-loop-rest
-decreases-loop-rest l = length l.rest
+abbrev pub decreases-loop-p : goal.decreases-loop-p
+decreases-loop-p l = length l.rest
