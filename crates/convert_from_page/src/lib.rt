@@ -11,12 +11,12 @@ ghost use Rattle.page.specs.Paged.{paged, Keeps};
 ghost use Rattle.convert_from_page.specs.Inside.Units.{AreUnits};
 
 use page::Page;
-use terms::{Decoder, Refusal, Written};
+use terms::{Decoder, Refusal};
 
 mod numbers;
 
 // The bytes of the text's numbers; refused where the output has no room for them.
-fn fit(text: &[u8], numbers: &[u16; 256], out: &mut [u8]) -> Written
+fn fit(text: &[u8], numbers: &[u16; 256], out: &mut [u8]) -> Result<usize, Refusal>
     requires { (length text.now ≤ limit) × Keeps numbers.now × AreUnits numbers.now }
     ensures { Writes
         (roomed (length out.old) (converted (paged numbers.now) utf8 text.now))
@@ -26,17 +26,17 @@ fn fit(text: &[u8], numbers: &[u16; 256], out: &mut [u8]) -> Written
         result }
 {
     if 3 * text.len() <= out.len() {
-        return Written::Count(crate::numbers::put(text, numbers, out));
+        return Ok(crate::numbers::put(text, numbers, out));
     }
     let bytes = crate::numbers::need(text, numbers);
     if out.len() < bytes {
-        return Written::Refused(Refusal::NoRoom { needed: bytes });
+        return Err(Refusal::NoRoom { needed: bytes });
     }
-    Written::Count(crate::numbers::put(text, numbers, out))
+    Ok(crate::numbers::put(text, numbers, out))
 }
 
 // A text of a page as bytes. No byte is refused.
-pub fn to_bytes(text: &[u8], page: Page, out: &mut [u8]) -> Written
+pub fn to_bytes(text: &[u8], page: Page, out: &mut [u8]) -> Result<usize, Refusal>
     ensures { Writes
         (repair_says (length out.old) text.now (converted (paged (table_of page)) utf8 text.now))
         (converted (paged (table_of page)) utf8 text.now)
@@ -45,7 +45,7 @@ pub fn to_bytes(text: &[u8], page: Page, out: &mut [u8]) -> Written
         result }
 {
     if Decoder::LIMIT < text.len() {
-        return Written::Refused(Refusal::OverLimit);
+        return Err(Refusal::OverLimit);
     }
     let numbers = page::numbers(page);
     fit(text, &numbers, out)
