@@ -23,7 +23,7 @@ use Rattle.decoder_shared.specs.Inside.Steps.{told_of}
 use Rattle.decoder_shared.proofs.FeedAnswers as any
 use Rattle.decoder.specs.State.{byte_decoding, opened, fed}
 use Rattle.decoder.specs.Inside.Acting.{need, places, Stands, Work, work, reached, Fits, Ready, acted}
-use Rattle.decoder.specs.Inside.Steps.{tally_of, keeping, Rests, behind, Answers}
+use Rattle.decoder.specs.Inside.Steps.{tally_of, beginning, keeping, Rests, behind, Answers}
 use Rattle.decoder.proofs.SettledPlaces.{need_append, need-small}
 use Rattle.decoder.proofs.SettledByReader.{Told, told, stands}
 use Rattle.decoder.proofs.SegmentsAct.{logs-long, acted-append, ready-front, ready-behind}
@@ -40,7 +40,7 @@ module _ (d : Decoder) (taken : ℕ) (s : State Log) (out list : List ℕ) where
 
   pub answers-done : (w : Work) (q : Decoder) → w ≡ reached out s.kept → length s.kept.out ≤ length out
       → q ≡ keeping s.left w.tally taken d.room
-      → Answers d taken s out list w.out w.list (record { answer = Ok w.tally.written; state = q })
+      → Answers d taken s out list w.out w.list (record { answer = Ok w.written; state = q })
   answers-done w q e h held =
       let says : roomed (length out) s.kept.out ≡ 0 ∷ length s.kept.out ∷ [] = rw (le-ltb (length out) (length s.kept.out) h) in
       record {
@@ -90,7 +90,7 @@ module _ (d : Decoder) (seg : First) (seam rest list : List ℕ) (p : Rests d se
 
     module _ (h : places seg + need (parts bytes rest).done ≤ length out) where
       abbrev begins : Work
-      begins = work (tally_of d) out list
+      begins = work (beginning d) out list
 
       ready : Ready d.room all begins
       ready = record { enough = omega (arith, h, all-need); row = p.row; sums = all-size; counts = p.counts }
@@ -110,7 +110,7 @@ module _ (d : Decoder) (seg : First) (seam rest list : List ℕ) (p : Rests d se
         -- and so have those of the text
         pub behind-done : (w : Work) → w ≡ acted d.room (parts bytes rest).done v
             → (q : Decoder) → q ≡ keeping (parts bytes rest).left w.tally taken d.room
-            → Answers d taken (behind d seam rest list) out list w.out w.list (record { answer = Ok w.tally.written; state = q })
+            → Answers d taken (behind d seam rest list) out list w.out w.list (record { answer = Ok w.written; state = q })
         behind-done w f q held =
             let g : w ≡ acted d.room all begins = f ∙ rw seam-acted (acted-append d.room (first_settled bytes seam) (parts bytes rest).done begins) in
             answers-done d taken (behind d seam rest list) out list w q g (omega (arith, h, needs _ refl)) held

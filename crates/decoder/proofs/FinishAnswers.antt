@@ -21,7 +21,7 @@ use Rattle.decoder.specs.Checks.{admit_says}
 use Rattle.decoder.specs.State.{left, byte_decoding}
 use Rattle.decoder.specs.Feeding.{Finishes}
 use Rattle.decoder.specs.Inside.Acting.{Work, work, log_of, reached, Fits, mended}
-use Rattle.decoder.specs.Inside.Steps.{tally_of}
+use Rattle.decoder.specs.Inside.Steps.{beginning}
 use Rattle.std.specs.Prelude.{Ok, Err}
 use Rattle.decoder.proofs.TestsAsFacts.{Sound, sound_is}
 use Rattle.decoder.proofs.SeamSettled.{left-long}
@@ -54,7 +54,7 @@ module _ (d : Decoder) (out list : List ℕ) (three : length d.held ≡ most_pen
     finish-short = any.finish-short byte_decoding d out list g bytes_division most_pending bytes-hold held-ended mark marks passes.tail.begins left-some
 
     abbrev begins : Work
-    begins = work (tally_of d) out list
+    begins = work (beginning d) out list
 
     pub last-ready : length mark ≤ length out → Fits d.room (length mark) d.pending begins
     last-ready h =
@@ -65,7 +65,7 @@ module _ (d : Decoder) (out list : List ℕ) (three : length d.held ≡ most_pen
     pub finish-done : length mark ≤ length out → (w : Work) → w ≡ reached out (mended d.room d.pending ended (log_of begins))
         → (q : Decoder) → q ≡ fresh_of d.room
         → Finishes d out list w.out w.list
-        (record { answer = Ok (record { written = w.tally.written; whole = w.tally.whole; damaged = w.tally.damaged; count = w.tally.count }); state = q })
+        (record { answer = Ok (record { written = w.written; whole = w.tally.whole; damaged = w.tally.damaged; count = w.tally.count }); state = q })
     finish-done h w e q f =
         let m : Log = struck d.room d.pending ended (counted d.whole d.damaged d.count list) in
         let same = ap (λ (n : ℕ). struck d.room n ended (counted d.whole d.damaged d.count list)) (sym long) in

@@ -20,7 +20,9 @@ use Rattle.decoder_shared.specs.Decoding.{numbers}
 use Rattle.decoder_shared.specs.Inside.Steps.{segment_of}
 use Rattle.decoder.specs.State.{act}
 use Rattle.decoder.specs.Inside.Acting.{need, Work, work, log_of, reached, Ready, acted, passed, mended}
-use Rattle.decoder.specs.declared.tally.Tally.{Tally}
+use Rattle.decoder_shared.specs.Inside.Tallying as tallying
+use Rattle.decoder_shared.specs.declared.tally.Tally.{Tally}
+use Rattle.decoder.specs.declared.repair.Repair.{Repair}
 use Rattle.decoder.proofs.SettledPlaces.{need_append}
 
 -- ---- what a log leaves of an output
@@ -58,8 +60,8 @@ module _ (room : ℕ) where
       ∙ reached-over w.out l (foldl (act room) l ts) (omega (arith, logs-long l ts))
       ∙ ap (reached w.out) (sym (foldl-append _ (log_of w) ss ts))
 
-  pub acted-none : (w : Work) → w.tally.written ≤ length w.out → w ≡ acted room [] w
-  acted-none w h = rw (length-take-le w.tally.written w.out h, take-append-drop w.tally.written w.out)
+  pub acted-none : (w : Work) → w.written ≤ length w.out → w ≡ acted room [] w
+  acted-none w h = rw (length-take-le w.written w.out h, take-append-drop w.written w.out)
 
   module _ (ss ts : List (Segment Kind)) (w : Work) (r : Ready room (ss ++ ts) w) where
     pub ready-front : Ready room ss w
@@ -74,8 +76,8 @@ module _ (room : ℕ) where
     ready-behind =
         let l : Log = foldl (act room) (log_of w) ss in
         let e = logs-is (log_of w) ss in
-        let n : length l.out ≡ w.tally.written + need ss
-        = logs-long (log_of w) ss ∙ rw (length-take-le w.tally.written w.out (omega (arith, r.enough))) in
+        let n : length l.out ≡ w.written + need ss
+        = logs-long (log_of w) ss ∙ rw (length-take-le w.written w.out (omega (arith, r.enough))) in
         let long : length l.out ≤ length w.out = omega (arith, n, r.enough, need_append ss ts) in
         let row : length l.list ≡ length w.list
         = ap (λ (m : Log). length m.list) e ∙ rw (store_is numbers entry_width room (λ e. refl), length-sets) in
@@ -101,12 +103,12 @@ module _ (room : ℕ) where
   mended-acts n c (x ∷ xs) e k l = rw e (simp add-zero)
 
 -- no bytes do nothing
-pub passed_none : (run : List ℕ) → length run ≡ 0 → (w : Work) → w.tally.written ≤ length w.out → w ≡ reached w.out (passed run (log_of w))
-passed_none [] e w h = simp (add-zero, append-nil, length-take-le w.tally.written w.out h, take-append-drop w.tally.written w.out)
+pub passed_none : (run : List ℕ) → length run ≡ 0 → (w : Work) → w.written ≤ length w.out → w ≡ reached w.out (passed run (log_of w))
+passed_none [] e w h = simp (add-zero, append-nil, length-take-le w.written w.out h, take-append-drop w.written w.out)
 passed_none (x ∷ xs) e w h = absurd (omega arith)
 
 -- so much was written behind what stood in the output
-module _ (t : Tally) (out list vs ys : List ℕ) (h : t.written + length vs ≤ length out) (e : ys ≡ vs ++ drop (length vs) (lent out t.written)) where
+module _ (t : Repair) (out vs ys : List ℕ) (h : t.written + length vs ≤ length out) (e : ys ≡ vs ++ drop (length vs) (lent out t.written)) where
   put-long : t.written + length vs ≡ length (take t.written out ++ vs)
   put-long = sym (length-append (take t.written out) vs ∙ rw (length-take-le t.written out (omega arith)))
 
@@ -116,11 +118,19 @@ module _ (t : Tally) (out list vs ys : List ℕ) (h : t.written + length vs ≤ 
       ∙ rw (e, part_is out t.written, drop-drop (length vs) t.written out, ← put-long)
       (sym (append_assoc (take t.written out) vs (drop (t.written + length vs) out)))
 
-  -- it is what a log leaves
-  pub put-reached : (i k n : ℕ)
-      → work (record { whole = i; damaged = k; count = n; written = t.written + length vs }) (back out t.written ys) list
-      ≡ reached out (record { whole = i; damaged = k; count = n; out = take t.written out ++ vs; list = list })
-  put-reached i k n = λ j. work (record { whole = i; damaged = k; count = n; written = put-long j }) (put_is j) list
+  -- it is what a log leaves, that has the totals and the list of another in which nothing is written
+  pub put-as : (s : Tally) (list' : List ℕ) (m : Log) → tallying.log_of s list' ≡ m
+      → work (record { tally = s; written = t.written + length vs }) (back out t.written ys) list'
+      ≡ reached out (record { whole = m.whole; damaged = m.damaged; count = m.count; out = take t.written out ++ vs; list = m.list })
+  put-as s list' m f =
+      λ j.
+      let l = f j in
+      record {
+        tally = record { whole = l.whole; damaged = l.damaged; count = l.count };
+        written = put-long j;
+        out = put_is j;
+        list = l.list;
+      }
 
 -- there are places for it in the part of the output that is lent
 pub put-lent : (out : List ℕ) (i n : ℕ) → i + n ≤ length out → n ≤ length (lent out i)

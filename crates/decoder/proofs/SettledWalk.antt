@@ -77,7 +77,7 @@ module _ (text : List ℕ) (n : ℕ) (there : Run text n) where
 
   -- its bytes have room where the turn has, and do what its segments do
   module _ (room : ℕ) (w : Work) where
-    pub run_fits : Fits room n n w → (w.tally.written + length (take n text) ≤ length w.out) × (w.tally.whole + length (take n text) ≤ limit)
+    pub run_fits : Fits room n n w → (w.written + length (take n text) ≤ length w.out) × (w.tally.whole + length (take n text) ≤ limit)
     run_fits f = rw (run_long text n there) (f.enough, omega (arith, f.sums))
 
     pub run-acted : (v : Work) → v ≡ reached w.out (passed (take n text) (log_of w)) → v ≡ acted room (run text n) w

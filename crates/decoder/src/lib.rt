@@ -11,11 +11,12 @@ ghost use Rattle.decoder.specs.Feeding.{Starts, Feeds, Finishes};
 ghost use Rattle.decoder.specs.Room.{most_fed};
 ghost use Rattle.decoder.specs.Inside.Steps as steps;
 
-use crate::tally::Tally;
+use crate::repair::Repair;
+use decoder_shared::Tally;
 use terms::{Cause, Decoder, First, Refusal};
 
 mod checks;
-mod tally;
+mod repair;
 mod walk;
 
 pub use checks::is_sound;
@@ -32,19 +33,28 @@ pub use decoder_shared::Totals;
 // ---- a piece behind what is pending
 
 // The tally that a state begins with.
-fn open_tally(state: Decoder) -> Tally
+pub fn tally_of(state: Decoder) -> Tally
     ensures { result ≡ steps.tally_of state }
 {
     Tally {
         whole: state.whole,
         damaged: state.damaged,
         count: state.count,
+    }
+}
+
+// Nothing is written yet.
+fn begin(state: Decoder) -> Repair
+    ensures { result ≡ steps.beginning state }
+{
+    Repair {
+        tally: tally_of(state),
         written: 0,
     }
 }
 
 // The state that keeps a tally and what is left.
-fn keep(left: &[u8], tally: Tally, taken: usize, room: usize) -> Decoder
+pub fn keep(left: &[u8], tally: Tally, taken: usize, room: usize) -> Decoder
     ensures { result ≡ steps.keeping left.now tally taken room }
 {
     let held = utf8_pending::hold(left);
@@ -79,18 +89,18 @@ fn feed_rest(
             state,
         };
     }
-    let first = crate::tally::act(seg, seam, open_tally(state), state.room, out, list);
+    let first = begin(state).act(seg, seam, state.room, out, list);
     let all = crate::walk::walk(rest, first, state.room, out, list);
-    let tally = all.tally;
+    let repair = all.repair;
     let at = all.size;
     Fed {
-        answer: Ok(tally.written),
-        state: keep(&rest[at..], tally, taken, state.room),
+        answer: Ok(repair.written),
+        state: keep(&rest[at..], repair.tally, taken, state.room),
     }
 }
 
 // The segment that stands first in a seam. Mostly it is empty, and not worth the call.
-fn first_of(seam: &[u8]) -> First
+pub fn first_of(seam: &[u8]) -> First
     ensures { told_first result ≡ first_says bytes seam.now }
 {
     if seam.len() == 0 {
@@ -112,7 +122,7 @@ fn join(seam: &[u8], state: Decoder, piece: &[u8], out: &mut [u8], list: &mut [u
     if size < state.pending {
         return Fed {
             answer: Ok(0),
-            state: keep(seam, open_tally(state), taken, state.room),
+            state: keep(seam, tally_of(state), taken, state.room),
         };
     }
     let from = size - state.pending;
@@ -141,31 +151,20 @@ fn end(state: Decoder, out: &mut [u8], list: &mut [u32]) -> Finished
 {
     if state.pending == 0 {
         return Finished {
-            answer: Ok(Totals {
-                written: 0,
-                whole: state.whole,
-                damaged: state.damaged,
-                count: state.count,
-            }),
+            answer: Ok(tally_of(state).totals(0)),
             state: Decoder::fresh(state.room),
         };
     }
-    let needed = crate::tally::MARK;
+    let needed = crate::repair::MARK;
     if out.len() < needed {
         return Finished {
             answer: Err(Refusal::NoRoom { needed }),
             state,
         };
     }
-    let first = open_tally(state);
-    let all = crate::tally::mend(state.pending, Cause::Ended, first, state.room, out, list);
+    let all = begin(state).mend(state.pending, Cause::Ended, state.room, out, list);
     Finished {
-        answer: Ok(Totals {
-            written: all.written,
-            whole: all.whole,
-            damaged: all.damaged,
-            count: all.count,
-        }),
+        answer: Ok(all.tally.totals(all.written)),
         state: Decoder::fresh(state.room),
     }
 }
@@ -192,10 +191,7 @@ pub fn start(room: usize) -> Started
 pub fn most(n: usize) -> usize
     ensures { result ≡ most_fed n }
 {
-    if Decoder::LIMIT < n {
-        return crate::tally::MARK * (Decoder::LIMIT + 1);
-    }
-    crate::tally::MARK * (n + 1)
+    crate::repair::MARK * (n.min(Decoder::LIMIT) + 1)
 }
 
 // Feeds a piece: everything that is settled is written in repaired form, and the damages among it are entered in the list.

@@ -5,14 +5,14 @@ ghost use Rattle.terms.specs.Limits.{limit};
 ghost use Rattle.utf8.specs.Bytes.{bytes};
 ghost use Rattle.decoder.specs.Inside.Acting.{work, Ready, Settles, need, places, lack};
 
-use crate::tally::Tally;
+use crate::repair::Repair;
 use terms::First;
 use utf8_check::Pace;
 
 // What the settled segments of a text did, and how many bytes they have.
 #[derive(Clone, Copy)]
 pub(crate) struct Settled {
-    pub tally: Tally,
+    pub repair: Repair,
     pub size: usize,
 }
 
@@ -32,7 +32,7 @@ fn need_on(text: &[u8]) -> usize
         }
         let behind = &rest[size..];
         let run = utf8_check::paced_run(behind, pace);
-        n += crate::tally::places(seg) + run;
+        n += crate::repair::places(seg) + run;
         pace = utf8_check::pace_behind(pace, run);
         rest = &behind[run..];
     }
@@ -56,8 +56,8 @@ pub(crate) fn lacking(seg: First, text: &[u8], given: usize) -> Option<usize>
     requires { (places seg ≤ 3 * limit) × (length text.now ≤ limit) }
     ensures { result ≡ lack (places seg + need (parts bytes text.now).done) given }
 {
-    let first = crate::tally::places(seg);
-    if first + crate::tally::MARK * text.len() <= given {
+    let first = crate::repair::places(seg);
+    if first + crate::repair::MARK * text.len() <= given {
         return None;
     }
     let needed = first + need_of(text);
@@ -68,12 +68,12 @@ pub(crate) fn lacking(seg: First, text: &[u8], given: usize) -> Option<usize>
 }
 
 // Each settled segment of a text acts in its turn: segments and runs of whole ones by turns, a segment first.
-fn walk_on(text: &[u8], tally: Tally, room: usize, out: &mut [u8], list: &mut [u32]) -> Settled
-    requires { Ready room (parts bytes text.now).done (work tally out.old list.old) }
-    ensures { Settles room text.now (work tally out.old list.old)
-        (work result.tally out.new list.new) result.size }
+fn walk_on(text: &[u8], repair: Repair, room: usize, out: &mut [u8], list: &mut [u32]) -> Settled
+    requires { Ready room (parts bytes text.now).done (work repair out.old list.old) }
+    ensures { Settles room text.now (work repair out.old list.old)
+        (work result.repair out.new list.new) result.size }
 {
-    let mut tally = tally;
+    let mut repair = repair;
     let mut rest = text;
     let mut pace = Pace::START;
     loop {
@@ -81,14 +81,14 @@ fn walk_on(text: &[u8], tally: Tally, room: usize, out: &mut [u8], list: &mut [u
         let size = utf8_pending::settled_size(seg);
         if size == 0 {
             return Settled {
-                tally,
+                repair,
                 size: text.len() - rest.len(),
             };
         }
-        tally = crate::tally::act(seg, rest, tally, room, out, list);
+        repair = repair.act(seg, rest, room, out, list);
         let behind = &rest[size..];
         let run = utf8_check::paced_run(behind, pace);
-        tally = crate::tally::pass(&behind[..run], tally, out);
+        repair = repair.pass(&behind[..run], out);
         pace = utf8_check::pace_behind(pace, run);
         rest = &behind[run..];
     }
@@ -98,30 +98,29 @@ fn walk_on(text: &[u8], tally: Tally, room: usize, out: &mut [u8], list: &mut [u
 // table is made.
 pub(crate) fn walk(
     text: &[u8],
-    tally: Tally,
+    repair: Repair,
     room: usize,
     out: &mut [u8],
     list: &mut [u32],
 ) -> Settled
-    requires { Ready room (parts bytes text.now).done (work tally out.old list.old) }
-    ensures { Settles room text.now (work tally out.old list.old)
-        (work result.tally out.new list.new) result.size }
+    requires { Ready room (parts bytes text.now).done (work repair out.old list.old) }
+    ensures { Settles room text.now (work repair out.old list.old)
+        (work result.repair out.new list.new) result.size }
 {
     if text.len() == 0 {
-        return Settled { tally, size: 0 };
+        return Settled { repair, size: 0 };
     }
     let run = utf8_check::whole_run(text);
-    let first = crate::tally::pass(&text[..run], tally, out);
+    let first = repair.pass(&text[..run], out);
     if run == text.len() {
         return Settled {
-            tally: first,
+            repair: first,
             size: run,
         };
     }
     let all = walk_on(&text[run..], first, room, out, list);
-    let tally = all.tally;
     Settled {
-        tally,
+        repair: all.repair,
         size: run + all.size,
     }
 }

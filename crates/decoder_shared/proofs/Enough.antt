@@ -1,13 +1,14 @@
 -- The room that is enough for a feed and for finish, over any decoder: what is pending becomes one segment, with or without the next
 -- elements.
 use mathlib.Core.Path.{◌≡◌, ap, ◌∙◌}
-use Prim.Native.Nat.{ℕ, suc, ◌+◌, ◌-◌, ◌*◌, ◌≤◌}
+use Prim.Native.Nat.{ℕ, suc, ◌+◌, ◌-◌, ◌*◌, ◌≤◌, ◌<◌, min}
 use native.Mathlib.Nat.{mul-add, mul-suc, one-mul, mul-le-mul_right}
 use mathlib.Core.Bool.{true}
 use mathlib.Core.List.{List, [], ◌∷◌, ◌++◌, append-nil}
 use lib.ListN.{length, drop, length-append, length-drop}
 use lib.Seq.{drop-append-add, drop-length}
-use borrow.Author.Tests.{not-true, le-ltb}
+use lib.Dec.{ltb}
+use borrow.Author.Tests.{not-true, le-ltb, ltb-true, ltb-false}
 use native.Mathlib.Omega.{arith}
 use Rattle.theory.specs.Reader.{Segment, Parts, first, rest, cut, parts, pending}
 use Rattle.theory.specs.Table.{Kind, is_damage}
@@ -95,3 +96,9 @@ module _ {S : Type 0} (D : Decoding S) (to : Form) (F : Few D to) where
     enough-ended =
         rw (log_is is_damage D.write numbers entry_width (D.stands d).room (opened D d list).kept (cut D.look (D.stands d).left))
         (omega (arith, ended-few (D.stands d).left begins))
+
+-- as it is counted
+pub most-is : (to : Form) (n : ℕ) → length (to.write replacement) * (min n limit + 1) ≡ most_fed to n
+most-is to n = split (ltb limit n)
+    (λ t. let l : limit < n = ltb-true limit n t in let e : min n limit + 1 ≡ suc limit = omega arith in rw (t, e))
+    (λ t. let l : n ≤ limit = ltb-false limit n t in let e : min n limit + 1 ≡ suc n = omega arith in rw (t, e))

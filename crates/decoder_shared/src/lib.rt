@@ -8,6 +8,10 @@ ghost use Rattle.decoder_shared.specs.Checks.{checks};
 
 use terms::{Cause, Decoder, Refusal};
 
+mod tally;
+
+pub use tally::{Settled, Tally};
+
 // What a start gives: whether its room was refused, and the state.
 #[derive(Clone, Copy)]
 pub struct Started<S> {

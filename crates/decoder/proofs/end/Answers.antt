@@ -14,7 +14,8 @@ three c = c.well_formed.0.1.1.0.1.0.1
 pub returns-then-state-eq0 : goal.returns-then-state-eq0
 returns-then-state-eq0 c =
     let a = c.args in
-    finish-none a.state a.out.now a.list.now (three (goal.at.returns-then-state-eq0 c).Start) c.requires c.if-state-eq0.true c.fresh.result c.fresh.ensures
+    rw (c.totals.ensures, c.tally_of.ensures)
+    (finish-none a.state a.out.now a.list.now (three (goal.at.returns-then-state-eq0 c).Start) c.requires c.if-state-eq0.true c.fresh.result c.fresh.ensures)
 
 pub returns-then-out-needed : goal.returns-then-out-needed
 returns-then-out-needed c =
@@ -24,12 +25,13 @@ returns-then-out-needed c =
 pub mend-all-requires : goal.mend-all-requires
 mend-all-requires c =
     let a = c.args in
-    rw c.open_tally-first.ensures
+    rw c.begin.ensures
     (last-ready a.state a.out.now a.list.now (three (goal.at.mend-all-requires c).Start) c.requires c.if-state-eq0.false c.if-out-needed.false)
 
 pub returns : goal.returns
 returns c =
     let a = c.args in
-    finish-done a.state a.out.now a.list.now (three (goal.at.returns c).Start) c.requires c.if-state-eq0.false c.if-out-needed.false
+    rw c.totals-2.ensures
+    (finish-done a.state a.out.now a.list.now (three (goal.at.returns c).Start) c.requires c.if-state-eq0.false c.if-out-needed.false
     (work c.mend-all.result c.mend-all.new.out c.mend-all.new.list)
-    (rw c.open_tally-first.ensures at c.mend-all.ensures) c.fresh-2.result c.fresh-2.ensures
+    (rw c.begin.ensures at c.mend-all.ensures) c.fresh-2.result c.fresh-2.ensures)

@@ -9,7 +9,7 @@ use Rattle.terms.proofs.WalkBySegments.{part_is}
 use Rattle.utf8.specs.Bytes.{bytes}
 use Rattle.decoder_shared.specs.Inside.Steps.{told_of}
 use Rattle.decoder.specs.Inside.Acting.{need, places, work, acted}
-use Rattle.decoder.specs.Inside.Steps.{tally_of, keeping}
+use Rattle.decoder.specs.Inside.Steps.{beginning, keeping}
 use Rattle.decoder_shared.proofs.SettledText.{settled-inside, settled-left}
 use Rattle.decoder.proofs.SettledPlaces.{lack-some, lack-none}
 use Rattle.decoder.proofs.FeedAnswers.{rests-small, needs-few, seam-ready, rest-ready, behind-short, behind-done}
@@ -36,15 +36,15 @@ enough c = lack-none _ _ (sym c.in_default.is ∙ c.lacking.ensures)
 pub act-first-requires : goal.act-first-requires
 act-first-requires c =
     let a = c.args in
-    rw c.open_tally.ensures
+    rw c.begin.ensures
     (seam-ready a.state a.seg a.seam.now a.rest.now a.list.now c.requires a.taken a.out.now (enough (goal.at.act-first-requires c).In_default))
 
 -- the segment at the seam has acted
 seam-acts : (c : After-act-first)
     → let a = c.args in
     work c.act-first.result c.act-first.new.out c.act-first.new.list
-    ≡ acted a.state.room (told_of a.seg a.seam.now) (work (tally_of a.state) a.out.now a.list.now)
-seam-acts c = rw c.open_tally.ensures at c.act-first.ensures
+    ≡ acted a.state.room (told_of a.seg a.seam.now) (work (beginning a.state) a.out.now a.list.now)
+seam-acts c = rw c.begin.ensures at c.act-first.ensures
 
 pub walk-all-requires : goal.walk-all-requires
 walk-all-requires c =
@@ -74,5 +74,5 @@ returns c =
     let a = c.args in
     behind-done a.state a.seg a.seam.now a.rest.now a.list.now c.requires a.taken a.out.now (enough (goal.at.returns c).In_default)
     (work c.act-first.result c.act-first.new.out c.act-first.new.list) (seam-acts (goal.at.returns c).After-act-first)
-    (work c.walk-all.result.tally c.walk-all.new.out c.walk-all.new.list) c.walk-all.ensures.same
-    c.keep.result (c.keep.ensures ∙ ap (λ (xs : List ℕ). keeping xs c.walk-all.result.tally a.taken a.state.room) (left_is (goal.at.returns c).After-walk-all))
+    (work c.walk-all.result.repair c.walk-all.new.out c.walk-all.new.list) c.walk-all.ensures.same
+    c.keep.result (c.keep.ensures ∙ ap (λ (xs : List ℕ). keeping xs c.walk-all.result.repair.tally a.taken a.state.room) (left_is (goal.at.returns c).After-walk-all))

@@ -41,7 +41,7 @@ returns-then-size-state c =
     answers-still a.state (a.state.taken + length a.piece.now) a.piece.now a.out.now a.list.now a.seam.now c.keep.result
     (join-none a.state a.piece.now a.list.now a.seam.now c.requires.0 c.requires.1 (three way.Start)
     (omega (arith, size_is way.After-settled_size-size, c.if-size-state.true)))
-    (rw c.open_tally.ensures at c.keep.ensures)
+    (rw c.tally_of.ensures at c.keep.ensures)
 
 -- the segment reaches over what is pending, and ends in the piece
 over : (c : Else-size-state) → c.settled_size-size.result ≡ total size (first_settled bytes c.args.seam.now)

@@ -14,7 +14,8 @@ use Rattle.utf8_pending.specs.Tail.{settled_size}
 use Rattle.decoder_shared.specs.Decoding.{numbers}
 use Rattle.decoder_shared.specs.Inside.Steps.{told_of}
 use Rattle.decoder.specs.State.{act}
-use Rattle.decoder.specs.declared.tally.Tally.{Tally}
+use Rattle.decoder_shared.specs.declared.tally.Tally.{Tally}
+use Rattle.decoder.specs.declared.repair.Repair.{Repair}
 
 -- ---- segments, as the reader tells of them
 
@@ -37,15 +38,16 @@ pub record Stands (seg : First) (text : List ℕ) : Type 0 where
   pub bytes-are : settled_size seg ≡ total size (told_of seg text)
   pub places_are : places seg ≡ need (told_of seg text)
 
--- ---- a tally, with the output and the list that go with it
+-- ---- a tally and the places written, with the output and the list that go with them
 
 pub record Work : Type 0 where
   pub tally : Tally
+  pub written : ℕ
   pub out : List ℕ
   pub list : List ℕ
 
-abbrev pub work : Tally → List ℕ → List ℕ → Work
-work t out list = record { tally = t; out = out; list = list }
+abbrev pub work : Repair → List ℕ → List ℕ → Work
+work r out list = record { tally = r.tally; written = r.written; out = out; list = list }
 
 -- the log that it stands for
 abbrev pub log_of : Work → Log
@@ -53,20 +55,22 @@ log_of w = record {
   whole = w.tally.whole;
   damaged = w.tally.damaged;
   count = w.tally.count;
-  out = take w.tally.written w.out;
+  out = take w.written w.out;
   list = w.list;
 }
 
 -- what a log leaves of an output: its places behind what is written keep what they held
 abbrev pub reached : List ℕ → Log → Work
-reached out l =
-    work (record { whole = l.whole; damaged = l.damaged; count = l.count; written = length l.out })
-    (l.out ++ drop (length l.out) out)
-    l.list
+reached out l = record {
+  tally = record { whole = l.whole; damaged = l.damaged; count = l.count };
+  written = length l.out;
+  out = l.out ++ drop (length l.out) out;
+  list = l.list;
+}
 
 -- it has room for so many places and bytes more; the list has its entries, and no more damages are counted than damaged bytes
 pub record Fits (room places bytes : ℕ) (w : Work) : Type 0 where
-  pub enough : w.tally.written + places ≤ length w.out
+  pub enough : w.written + places ≤ length w.out
   pub row : entry_width * room ≤ length w.list
   pub sums : w.tally.whole + w.tally.damaged + bytes ≤ limit
   pub counts : w.tally.count ≤ w.tally.damaged

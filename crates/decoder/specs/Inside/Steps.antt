@@ -10,13 +10,17 @@ use Rattle.terms.specs.declared.First.{First}
 use Rattle.utf8.specs.Bytes.{bytes}
 use Rattle.utf8_pending.specs.Tail.{first_settled}
 use Rattle.decoder_shared.specs.Inside.Steps as steps
-use Rattle.decoder.specs.declared.tally.Tally.{Tally}
+use Rattle.decoder_shared.specs.declared.tally.Tally.{Tally}
+use Rattle.decoder.specs.declared.repair.Repair.{Repair}
 use Rattle.decoder.specs.State.{byte_decoding}
 use Rattle.decoder_shared.specs.declared.Fed.{Fed}
 
--- the tally that a state begins with, and the state that keeps a tally and what is left
+-- the tally that a state begins with, where nothing is written yet; and the state that keeps a tally and what is left
 abbrev pub tally_of : Decoder → Tally
-tally_of d = record { whole = d.whole; damaged = d.damaged; count = d.count; written = 0 }
+tally_of d = record { whole = d.whole; damaged = d.damaged; count = d.count }
+
+abbrev pub beginning : Decoder → Repair
+beginning d = record { tally = tally_of d; written = 0 }
 
 abbrev pub keeping : List ℕ → Tally → ℕ → ℕ → Decoder
 keeping rest t taken room = byte_decoding.state (record {

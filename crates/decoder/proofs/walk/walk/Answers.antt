@@ -17,7 +17,7 @@ use Rattle.decoder.proofs.walk.walk.Goals as goal
 pub returns-then-text-eq0 : goal.returns-then-text-eq0
 returns-then-text-eq0 c =
     let a = c.args in
-    empty_settled a.room a.text.now (work a.tally a.out.now a.list.now) c.requires c.if-text-eq0.true
+    empty_settled a.room a.text.now (work a.repair a.out.now a.list.now) c.requires c.if-text-eq0.true
 
 -- the first run stands there
 whole : (c : After-whole_run-run) → Run c.args.text.now c.whole_run-run.result
@@ -31,7 +31,7 @@ pass-first-requires c =
     let way = goal.at.pass-first-requires c in
     let a = c.args in
     let n = c.whole_run-run.result in
-    let entry = work a.tally a.out.now a.list.now in
+    let entry = work a.repair a.out.now a.list.now in
     let there = whole way.After-whole_run-run in
     run_fits a.text.now n there a.room entry (turn-ready a.room a.text.now entry c.requires (run-turn a.text.now n there))
 
@@ -45,11 +45,11 @@ record Begun (room n : ℕ) (text : List ℕ) (entry then : Work) : Type 0 where
 -- the first run is passed
 passed : (c : After-pass-first) → Run c.args.text.now c.whole_run-run.result
     → Begun c.args.room c.whole_run-run.result c.args.text.now
-    (work c.args.tally c.args.out.now c.args.list.now) (work c.pass-first.result c.pass-first.new.out c.args.list.now)
+    (work c.args.repair c.args.out.now c.args.list.now) (work c.pass-first.result c.pass-first.new.out c.args.list.now)
 passed c whole =
     let a = c.args in
     let n = c.whole_run-run.result in
-    let entry = work a.tally a.out.now a.list.now in
+    let entry = work a.repair a.out.now a.list.now in
     let then = work c.pass-first.result c.pass-first.new.out a.list.now in
     let e = run-acted a.text.now n whole a.room entry then (c.pass-first.ensures a.list.now) in
     let turn = run-turn a.text.now n whole in
@@ -85,13 +85,13 @@ walk_on-all-requires c =
 -- all has acted
 all : (c : After-walk_on-all)
     → Begun c.args.room c.whole_run-run.result c.args.text.now
-    (work c.args.tally c.args.out.now c.args.list.now) (work c.pass-first.result c.pass-first.new.out c.args.list.now)
-    → Settles c.args.room c.args.text.now (work c.args.tally c.args.out.now c.args.list.now)
-    (work c.walk_on-all.result.tally c.walk_on-all.new.out c.walk_on-all.new.list) (c.whole_run-run.result + c.walk_on-all.result.size)
+    (work c.args.repair c.args.out.now c.args.list.now) (work c.pass-first.result c.pass-first.new.out c.args.list.now)
+    → Settles c.args.room c.args.text.now (work c.args.repair c.args.out.now c.args.list.now)
+    (work c.walk_on-all.result.repair c.walk_on-all.new.out c.walk_on-all.new.list) (c.whole_run-run.result + c.walk_on-all.result.size)
 all c passed =
     let a = c.args in
     let then = work c.pass-first.result c.pass-first.new.out a.list.now in
-    let v = work c.walk_on-all.result.tally c.walk_on-all.new.out c.walk_on-all.new.list in
+    let v = work c.walk_on-all.result.repair c.walk_on-all.new.out c.walk_on-all.new.list in
     let k = c.walk_on-all.result.size in
     passed.settles v k
     (subst (λ (rest : List ℕ). Settles a.room rest then v k) (part_is a.text.now c.whole_run-run.result) c.walk_on-all.ensures)

@@ -17,13 +17,13 @@ use Rattle.decoder.specs.Inside.Acting.{Work, work, log_of, reached, passed}
 use Rattle.decoder.proofs.SettledByReader.{Told, told, stands}
 use Rattle.decoder.proofs.SettledWalk.{told-turn, run-turn, run_fits, run-acted, turn-ready}
 use Rattle.decoder.proofs.SettledWalk.{Walked, walked_start, walked_next, walked_end}
-use Rattle.decoder.proofs.walk.walk_on.Goals.{After-act-tally, After-paced_run-run, After-segment_by-seg, After-settled_size-size}
+use Rattle.decoder.proofs.walk.walk_on.Goals.{After-act-repair, After-paced_run-run, After-segment_by-seg, After-settled_size-size}
 use Rattle.decoder.proofs.walk.walk_on.Goals as goal
 
 pub loop-pace-init : goal.loop-pace-init
 loop-pace-init c =
     let a = c.args in
-    (refl, refl, walked_start a.room a.text.now (work a.tally a.out.now a.list.now) c.requires)
+    (refl, refl, walked_start a.room a.text.now (work a.repair a.out.now a.list.now) c.requires)
 
 -- what was told of the rest of the text
 says : (c : After-segment_by-seg) → told_first c.segment_by-seg.result ≡ first_says bytes c.loop-pace.rest.now
@@ -41,28 +41,28 @@ shape_of-list-then-size-eq0 c = c.loop-pace.invariant.1
 
 pub returns-then-size-eq0 : goal.returns-then-size-eq0
 returns-then-size-eq0 c =
-    walked_end c.args.room c.args.text.now (work c.args.tally c.args.out.now c.args.list.now) c.loop-pace.invariant.2
+    walked_end c.args.room c.args.text.now (work c.args.repair c.args.out.now c.args.list.now) c.loop-pace.invariant.2
     (seen (goal.at.returns-then-size-eq0 c).After-segment_by-seg) (sym c.settled_size-size.ensures ∙ c.if-size-eq0.true)
 
-pub act-tally-requires : goal.act-tally-requires
-act-tally-requires c =
-    let way = goal.at.act-tally-requires c in
+pub act-repair-requires : goal.act-repair-requires
+act-repair-requires c =
+    let way = goal.at.act-repair-requires c in
     let rest = c.loop-pace.rest.now in (
       stands c.segment_by-seg.result rest (says way.After-segment_by-seg),
-      turn-ready c.args.room rest (work c.loop-pace.tally c.loop-pace.out c.loop-pace.list) c.loop-pace.invariant.2.ready
+      turn-ready c.args.room rest (work c.loop-pace.repair c.loop-pace.out c.loop-pace.list) c.loop-pace.invariant.2.ready
           (told-turn rest (seen way.After-segment_by-seg)),
     )
 
 -- it has acted, and what lies behind the segment is left
-acted-on : (c : After-act-tally) → Told c.segment_by-seg.result c.loop-pace.rest.now
-    → Walked c.args.room c.args.text.now (work c.args.tally c.args.out.now c.args.list.now)
-    (drop c.settled_size-size.result c.loop-pace.rest.now) (work c.act-tally.result c.act-tally.new.out c.act-tally.new.list)
+acted-on : (c : After-act-repair) → Told c.segment_by-seg.result c.loop-pace.rest.now
+    → Walked c.args.room c.args.text.now (work c.args.repair c.args.out.now c.args.list.now)
+    (drop c.settled_size-size.result c.loop-pace.rest.now) (work c.act-repair.result c.act-repair.new.out c.act-repair.new.list)
 acted-on c seen =
     let a = c.args in
-    let then = work c.act-tally.result c.act-tally.new.out c.act-tally.new.list in
+    let then = work c.act-repair.result c.act-repair.new.out c.act-repair.new.list in
     rw c.settled_size-size.ensures
-    (walked_next a.room a.text.now (work a.tally a.out.now a.list.now) c.loop-pace.invariant.2 (told-turn c.loop-pace.rest.now seen) then
-    (rw seen.settled_is at c.act-tally.ensures))
+    (walked_next a.room a.text.now (work a.repair a.out.now a.list.now) c.loop-pace.invariant.2 (told-turn c.loop-pace.rest.now seen) then
+    (rw seen.settled_is at c.act-repair.ensures))
 
 inside : (c : After-settled_size-size) → Told c.segment_by-seg.result c.loop-pace.rest.now
     → c.settled_size-size.result ≤ length c.loop-pace.rest.now
@@ -95,16 +95,16 @@ slice_bounds-pass-end c =
     subst (λ (xs : List ℕ). n ≡ length (take n xs)) (cut_off c)
     (sym (run_long (drop c.settled_size-size.result c.loop-pace.rest.now) n (next c)))
 
-pub pass-tally-requires : goal.pass-tally-requires
-pass-tally-requires c =
-    let way = goal.at.pass-tally-requires c in
+pub pass-repair-requires : goal.pass-repair-requires
+pass-repair-requires c =
+    let way = goal.at.pass-repair-requires c in
     let n = c.paced_run-run.result in
     let room = c.args.room in
     let left = drop c.settled_size-size.result c.loop-pace.rest.now in
-    let acted = acted-on way.After-act-tally (seen way.After-segment_by-seg) in
+    let acted = acted-on way.After-act-repair (seen way.After-segment_by-seg) in
     let there = next way.After-paced_run-run in
-    subst (λ (xs : List ℕ). (c.act-tally.result.written + length (take n xs) ≤ length c.act-tally.new.out)
-    × (c.act-tally.result.whole + length (take n xs) ≤ limit)) (cut_off way.After-paced_run-run)
+    subst (λ (xs : List ℕ). (c.act-repair.result.written + length (take n xs) ≤ length c.act-repair.new.out)
+    × (c.act-repair.result.tally.whole + length (take n xs) ≤ limit)) (cut_off way.After-paced_run-run)
     (run_fits left n there room _ (turn-ready room left _ acted.ready (run-turn left n there)))
 
 -- a run that is passed behind what has acted
@@ -133,15 +133,15 @@ pub loop-pace-preserved : goal.loop-pace-preserved
 loop-pace-preserved c =
     let way = goal.at.loop-pace-preserved c in
     let n = c.paced_run-run.result in
-    let list = c.act-tally.new.list in
-    let mid = work c.act-tally.result c.act-tally.new.out list in
-    let v = work c.pass-tally.result c.pass-tally.new.out list in
-    let e : v ≡ reached c.act-tally.new.out (passed (take n (drop c.settled_size-size.result c.loop-pace.rest.now)) (log_of mid))
-    = subst (λ (xs : List ℕ). v ≡ reached c.act-tally.new.out (passed (take n xs) (log_of mid))) (sym (cut_off way.After-paced_run-run))
-    (c.pass-tally.ensures list) in (
-      c.pass-tally.auto.out ∙ c.act-tally.auto.out ∙ c.loop-pace.invariant.0,
-      c.act-tally.auto.list ∙ c.loop-pace.invariant.1,
-      subst (λ (rest : List ℕ). Walked c.args.room c.args.text.now (work c.args.tally c.args.out.now c.args.list.now) rest v)
+    let list = c.act-repair.new.list in
+    let mid = work c.act-repair.result c.act-repair.new.out list in
+    let v = work c.pass-repair.result c.pass-repair.new.out list in
+    let e : v ≡ reached c.act-repair.new.out (passed (take n (drop c.settled_size-size.result c.loop-pace.rest.now)) (log_of mid))
+    = subst (λ (xs : List ℕ). v ≡ reached c.act-repair.new.out (passed (take n xs) (log_of mid))) (sym (cut_off way.After-paced_run-run))
+    (c.pass-repair.ensures list) in (
+      c.pass-repair.auto.out ∙ c.act-repair.auto.out ∙ c.loop-pace.invariant.0,
+      c.act-repair.auto.list ∙ c.loop-pace.invariant.1,
+      subst (λ (rest : List ℕ). Walked c.args.room c.args.text.now (work c.args.repair c.args.out.now c.args.list.now) rest v)
           (sym (lent_both c.loop-pace.rest.now c.settled_size-size.result n))
-          (ran (acted-on way.After-act-tally (seen way.After-segment_by-seg)) (next way.After-paced_run-run) v e),
+          (ran (acted-on way.After-act-repair (seen way.After-segment_by-seg)) (next way.After-paced_run-run) v e),
     )

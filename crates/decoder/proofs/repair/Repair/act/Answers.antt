@@ -1,4 +1,4 @@
--- `tally::act` meets its contract: by what stands first.
+-- `Repair::act` meets its contract: by what stands first.
 use mathlib.Core.Path.{◌≡◌, sym, ap, ◌∙◌}
 use lib.ListN.{length, take}
 use lib.Seq.{length-take-le}
@@ -9,8 +9,8 @@ use Rattle.utf8_pending.specs.Tail.{settled_size}
 use Rattle.decoder.specs.Inside.Acting.{places, Stands, Work, work, log_of, reached}
 use Rattle.decoder.proofs.SettledByReader.{whole-inside}
 use Rattle.decoder.proofs.SegmentsAct.{acted-none, passed-acts, mended-acts}
-use Rattle.decoder.proofs.tally.act.Goals.{In-Whole}
-use Rattle.decoder.proofs.tally.act.Goals as goal
+use Rattle.decoder.proofs.repair.Repair.act.Goals.{In-Whole}
+use Rattle.decoder.proofs.repair.Repair.act.Goals as goal
 
 -- a whole segment lies in the text
 long : (c : In-Whole)
@@ -36,12 +36,12 @@ mend-requires c =
 pub returns-in-Nothing : goal.returns-in-Nothing
 returns-in-Nothing c =
     let a = c.args in
-    rw c.in-Nothing.is (acted-none a.room (work a.tally a.out.now a.list.now) (omega (arith, c.requires.1.enough)))
+    rw c.in-Nothing.is (acted-none a.room (work a.self a.out.now a.list.now) (omega (arith, c.requires.1.enough)))
 
 pub returns-in-Whole : goal.returns-in-Whole
 returns-in-Whole c =
     let a = c.args in
-    let w : Work = work a.tally a.out.now a.list.now in
+    let w : Work = work a.self a.out.now a.list.now in
     rw c.in-Whole.is
     (c.pass.ensures a.list.now ∙ ap (reached a.out.now) (passed-acts a.room (take c.in-Whole.n a.text.now) (log_of w)))
 
@@ -50,7 +50,7 @@ returns-in-Damage c =
     let a = c.args in
     let n = c.in-Damage.n in
     let why = c.in-Damage.cause in
-    let w : Work = work a.tally a.out.now a.list.now in
+    let w : Work = work a.self a.out.now a.list.now in
     let k : Stands (Damage n why) a.text.now = rw c.in-Damage.is at c.requires.0 in
     rw c.in-Damage.is
     (c.mend.ensures ∙ ap (reached a.out.now) (mended-acts a.room n (number_of why) (take n a.text.now) k.bytes-are k.places_are (log_of w)))
@@ -58,4 +58,4 @@ returns-in-Damage c =
 pub returns-in-Begun : goal.returns-in-Begun
 returns-in-Begun c =
     let a = c.args in
-    rw c.in-Begun.is (acted-none a.room (work a.tally a.out.now a.list.now) (omega (arith, c.requires.1.enough)))
+    rw c.in-Begun.is (acted-none a.room (work a.self a.out.now a.list.now) (omega (arith, c.requires.1.enough)))
