@@ -20,7 +20,7 @@ use Rattle.theory.proofs.PlacesFound.{bytes-foldl}
 use Rattle.theory.proofs.Rows.{sets-start, tab-length, written-fixed}
 use Rattle.theory.proofs.BuiltIsTrue.{build-again, built-so-far, built-at-end}
 use Rattle.terms.specs.Limits.{limit}
-use Rattle.terms.specs.Told.{is_granted, if_granted}
+use Rattle.terms.specs.Told.{told_checked, is_granted, if_granted}
 use Rattle.place.proofs.ReaderDivides.{reader_division}
 use Rattle.utf8_pending.proofs.SettledFirst.{left-kept, left-tail}
 use Rattle.place.specs.Measures.{place, ruler, reader}
@@ -29,7 +29,7 @@ use Rattle.place.specs.declared.Place.{Place}
 use Rattle.place.proofs.MeasuresRise.{measured, Ordered, ordered}
 use Rattle.index_checkpoint.specs.Checkpoints.{spacing, width, needed, index_of}
 use Rattle.index_lookup.proofs.AnswersAsPlain.{as_plain}
-use Rattle.index_build.specs.State.{fresh_builder, left, settled_place, sound, told_building, build_says}
+use Rattle.index_build.specs.State.{fresh_builder, left, settled_place, sound, build_says}
 use Rattle.index_build.specs.declared.state.Builder.{Builder}
 use Rattle.index_build.specs.declared.state.Built as the-built
 use Rattle.index_build.proofs.LoneReturn.{reader-short}
@@ -179,7 +179,7 @@ module _ (row : List ℕ) where
         sym (says-done h.state (length piece) (length h.row) o.tests (rw o.taken w) (rw (o.taken, k.long) n))
 
     -- AND AT THE END the row holds the index of the text
-    pub keeps-ends : (row' : List ℕ) (q : the-built.Built) → Finishes h.state h.row row' q → is_granted (told_building q.answer) ≡ true → Ends row text row' q
+    pub keeps-ends : (row' : List ℕ) (q : the-built.Built) → Finishes h.state h.row row' q → is_granted (told_checked q.answer) ≡ true → Ends row text row' q
     keeps-ends row' q f a =
         let g : is_granted (build_says h.state 0 (length h.row)) ≡ true = rw f.answer at a in
         let n : needed (length text) ≤ length row = omega (arith, (says-granted h.state 0 h.row g).room, keeps-holds.taken, k.long) in
@@ -207,7 +207,7 @@ built_as_plain row pieces row' q f a = as_plain row' _ (built_as_whole row piece
 
 pub feeds_called : (r : Course Caller) (piece row' : List ℕ) (q : the-built.Built) → Feeds r.caller.state piece r.caller.row row' q
     → called feed_of r piece
-    ≡ if_granted (told_building q.answer) (record { caller = record { state = q.state; row = row' }; pieces = r.pieces ++ piece ∷ [] }) r
+    ≡ if_granted (told_checked q.answer) (record { caller = record { state = q.state; row = row' }; pieces = r.pieces ++ piece ∷ [] }) r
 feeds_called r piece row' q h =
     let new = feed_of.goes r.caller piece in
     rw (h.answer, h.state, h.checkpoints)

@@ -6,6 +6,7 @@ use mathlib.Core.List.{List, [], ◌∷◌}
 use lib.ListN.{length}
 use lib.Dec.{ltb}
 use borrow.Author.Tests.{ltb-false}
+use Rattle.std.specs.Prelude.{Ok, Err}
 use Rattle.theory.proofs.Cases.{split}
 use Rattle.terms.specs.Told.{told_refusal, is_granted}
 use Rattle.terms.specs.declared.Refusal.{Refusal}
@@ -14,7 +15,6 @@ use Rattle.terms.proofs.Tested.{granted-passed}
 use Rattle.index_checkpoint.specs.Checkpoints.{needed}
 use Rattle.index_build.specs.State.{fresh_builder, sound, build_says}
 use Rattle.index_build.specs.declared.state.Builder.{Builder}
-use Rattle.index_build.specs.declared.state.Building.TheVariants.{Done, Refused}
 use Rattle.index_build.proofs.ChecksInOrder.{says-done}
 use Rattle.index_build.specs.Building.{ended, Feeds, Finishes}
 use Rattle.index_build.specs.Inside.Steps.{Granted, grown}
@@ -39,22 +39,22 @@ module _ (b : Builder) (more : ℕ) (row : List ℕ) where
 
 module _ (b : Builder) (piece row : List ℕ) where
   pub feed-done : Granted b (length piece) row → (row' : List ℕ) (r : Builder) → grown b piece row row' r
-      → Feeds b piece row row' (record { answer = Done; state = r })
+      → Feeds b piece row row' (record { answer = Ok tt; state = r })
   feed-done g row' r h =
       let e = granted-says b (length piece) row g in
       record { answer = sym e; state = rw e h.state; checkpoints = rw e h.checkpoints }
 
   pub feed-refused : (why : Refusal) → told_refusal why ≡ build_says b (length piece) (length row)
-      → Feeds b piece row row (record { answer = Refused why; state = b })
+      → Feeds b piece row row (record { answer = Err why; state = b })
   feed-refused why e = record { answer = e; state = rw (← e, no_zero why); checkpoints = rw (← e, no_zero why) }
 
 module _ (b : Builder) (row : List ℕ) where
   pub finish-done : Granted b 0 row → (row' : List ℕ) (r : Builder) → row' ≡ (ended b row).row → r ≡ fresh_builder
-      → Finishes b row row' (record { answer = Done; state = r })
+      → Finishes b row row' (record { answer = Ok tt; state = r })
   finish-done g row' r h f =
       let e = granted-says b 0 row g in
       record { answer = sym e; state = rw e f; checkpoints = rw e h }
 
   pub finish-refused : (why : Refusal) → told_refusal why ≡ build_says b 0 (length row)
-      → Finishes b row row (record { answer = Refused why; state = b })
+      → Finishes b row row (record { answer = Err why; state = b })
   finish-refused why e = record { answer = e; state = rw (← e, no_zero why); checkpoints = rw (← e, no_zero why) }

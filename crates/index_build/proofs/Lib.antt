@@ -28,5 +28,3 @@ pub mod OneAnswer
 pub mod TestsAsFacts
 -- The checks of a call, in their order
 pub mod ChecksInOrder
--- What a call that builds tells loses nothing: two answers that are told alike are equal
-pub mod ToldBack

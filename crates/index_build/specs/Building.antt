@@ -3,13 +3,13 @@ use Rattle.std.specs.Prelude.{◌≡◌, ℕ, ◌+◌, List, length}
 use Rattle.theory.specs.Stream.{State}
 use Rattle.theory.specs.Stream as stream
 use Rattle.theory.specs.Index.{Built, add, start_marked}
-use Rattle.terms.specs.Told.{if_granted}
+use Rattle.terms.specs.Told.{told_checked, if_granted}
 use Rattle.utf8.specs.Pending.{padded}
 use Rattle.place.specs.Measures.{ruler, reader}
 use Rattle.place.specs.Lookup.{four_counts}
 use Rattle.place.specs.declared.Place.{Place}
 use Rattle.index_checkpoint.specs.Checkpoints.{spacing, width}
-use Rattle.index_build.specs.State.{fresh_builder, left, settled_place, told_building, build_says}
+use Rattle.index_build.specs.State.{fresh_builder, left, settled_place, build_says}
 use Rattle.index_build.specs.declared.state.Builder.{Builder}
 use Rattle.index_build.specs.declared.state.Built as the-built
 
@@ -34,12 +34,12 @@ closed taken s = record {
 }
 
 pub record Feeds (b : Builder) (piece row row' : List ℕ) (r : the-built.Built) : Type 0 where
-  pub answer : told_building r.answer ≡ build_says b (length piece) (length row)
+  pub answer : told_checked r.answer ≡ build_says b (length piece) (length row)
   pub state : r.state ≡ if_granted (build_says b (length piece) (length row)) (closed (b.taken + length piece) (fed b piece row)) b
   pub checkpoints : row' ≡ if_granted (build_says b (length piece) (length row)) (fed b piece row).kept.row row
 
 -- finish settles the pending bytes and hands back a fresh state
 pub record Finishes (b : Builder) (row row' : List ℕ) (r : the-built.Built) : Type 0 where
-  pub answer : told_building r.answer ≡ build_says b 0 (length row)
+  pub answer : told_checked r.answer ≡ build_says b 0 (length row)
   pub state : r.state ≡ if_granted (build_says b 0 (length row)) fresh_builder b
   pub checkpoints : row' ≡ if_granted (build_says b 0 (length row)) (ended b row).row row

@@ -7,12 +7,12 @@ use Rattle.theory.specs.Reader.{parts}
 use Rattle.theory.specs.Stream.{join}
 use Rattle.theory.specs.Course.{Calls, Course, course}
 use Rattle.theory.specs.Index.{start_marked, build}
-use Rattle.terms.specs.Told.{is_granted}
+use Rattle.terms.specs.Told.{told_checked, is_granted}
 use Rattle.place.specs.Measures.{ruler, reader}
 use Rattle.place.specs.Lookup.{four_counts}
 use Rattle.index_checkpoint.specs.Checkpoints.{spacing, width, needed, index_of}
 use Rattle.index_lookup.specs.Agreeing.{Indexes, AsPlain}
-use Rattle.index_build.specs.State.{fresh_builder, left, settled_place, sound, told_building, build_says}
+use Rattle.index_build.specs.State.{fresh_builder, left, settled_place, sound, build_says}
 use Rattle.index_build.specs.declared.state.Builder.{Builder}
 use Rattle.index_build.specs.declared.state.Built as the-built
 use Rattle.index_build.specs.Building.{fed, closed, Finishes}
@@ -61,7 +61,7 @@ abbrev pub BuiltAsWhole : Type 0
 BuiltAsWhole =
     (row : List ℕ) (pieces : List (List ℕ)) (row' : List ℕ) (q : the-built.Built)
     → let r = fed_all row pieces in
-    Finishes r.caller.state r.caller.row row' q → is_granted (told_building q.answer) ≡ true → Ends row (join r.pieces) row' q
+    Finishes r.caller.state r.caller.row row' q → is_granted (told_checked q.answer) ≡ true → Ends row (join r.pieces) row' q
 
 -- THE THIRD DEMAND: an index that is built of a text in any pieces, with refused calls between them, in a buffer that held
 -- anything, and finished, makes each of the four lookups answer as the plain one
@@ -69,4 +69,4 @@ abbrev pub BuiltAsPlain : Type 0
 BuiltAsPlain =
     (row : List ℕ) (pieces : List (List ℕ)) (row' : List ℕ) (q : the-built.Built)
     → let r = fed_all row pieces in
-    Finishes r.caller.state r.caller.row row' q → is_granted (told_building q.answer) ≡ true → AsPlain row' (join r.pieces)
+    Finishes r.caller.state r.caller.row row' q → is_granted (told_checked q.answer) ≡ true → AsPlain row' (join r.pieces)

@@ -2,14 +2,11 @@
 use Rattle.std.specs.Prelude.{ℕ, ◌+◌, ◌-◌, Bool, cond, ◌&&◌, List, [], ◌∷◌, take, leb, ltb}
 use Rattle.terms.specs.Checks.{tested}
 use Rattle.terms.specs.Limits.{limit, unheld}
-use Rattle.terms.specs.Told.{told_refusal}
 use Rattle.utf8_pending.specs.Tail.{is_tail}
 use Rattle.place.specs.Measures.{place, reader}
 use Rattle.place.specs.declared.Place.{Place}
 use Rattle.index_checkpoint.specs.Checkpoints.{needed}
 use Rattle.index_build.specs.declared.state.Builder.{Builder}
-use Rattle.index_build.specs.declared.state.Building.{Building}
-use Rattle.index_build.specs.declared.state.Building.TheVariants.{Done, Refused}
 
 abbrev pub fresh_builder : Builder
 fresh_builder = record { held = unheld; pending = 0; taken = 0; units = 0; points = 0; lines = 0 }
@@ -31,10 +28,6 @@ sound b =
     && leb b.lines b.points
     && leb b.points b.units
     && leb b.units (b.taken - b.pending)
-
-abbrev pub told_building : Building → List ℕ
-told_building Done = 0 ∷ []
-told_building (Refused r) = told_refusal r
 
 -- ---- A CALL: refusal 8, 2, 3 in this order
 

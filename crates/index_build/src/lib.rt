@@ -18,7 +18,7 @@ mod run;
 mod settled;
 mod state;
 
-pub use state::{Builder, Building, Built};
+pub use state::{Builder, Built};
 
 // Checkpoint 0, which every call writes: the start of the text.
 fn mark_start(row: &mut [u32])
@@ -175,15 +175,15 @@ fn end(state: Builder, row: &mut [u32])
 pub fn feed(state: Builder, piece: &[u8], row: &mut [u32]) -> Built
     ensures { Feeds state piece.now row.old row.new result }
 {
-    match crate::state::check(state, piece.len(), row.len()) {
-        Building::Done => Built {
-            answer: Building::Done,
-            state: take(state, piece, row),
-        },
-        Building::Refused(why) => Built {
-            answer: Building::Refused(why),
+    if let Err(why) = crate::state::check(state, piece.len(), row.len()) {
+        return Built {
+            answer: Err(why),
             state,
-        },
+        };
+    }
+    Built {
+        answer: Ok(()),
+        state: take(state, piece, row),
     }
 }
 
@@ -191,17 +191,15 @@ pub fn feed(state: Builder, piece: &[u8], row: &mut [u32]) -> Built
 pub fn finish(state: Builder, row: &mut [u32]) -> Built
     ensures { Finishes state row.old row.new result }
 {
-    match crate::state::check(state, 0, row.len()) {
-        Building::Done => {
-            end(state, row);
-            Built {
-                answer: Building::Done,
-                state: Builder::fresh(),
-            }
-        }
-        Building::Refused(why) => Built {
-            answer: Building::Refused(why),
+    if let Err(why) = crate::state::check(state, 0, row.len()) {
+        return Built {
+            answer: Err(why),
             state,
-        },
+        };
+    }
+    end(state, row);
+    Built {
+        answer: Ok(()),
+        state: Builder::fresh(),
     }
 }

@@ -1,14 +1,15 @@
 // The builder's state: its tests, its last settled place, and whether a call is granted.
 ghost use Rattle.std.specs.Prelude.{◌≡◌, ◌≤◌};
+ghost use Rattle.terms.specs.Told.{told_checked};
 ghost use Rattle.utf8_pending.specs.Tail.{is_tail};
 ghost use Rattle.place.specs.Measures.{reader};
-ghost use Rattle.index_build.specs.State.{fresh_builder, settled_place, sound, told_building, build_says};
+ghost use Rattle.index_build.specs.State.{fresh_builder, settled_place, sound, build_says};
 
 use place::Place;
 use terms::{Decoder, Refusal};
 
 // What the builder keeps between two pieces.
-#[derive(Clone, Copy)]
+#[derive(Clone, Copy, PartialEq, Eq)]
 pub struct Builder {
     // the pending bytes, unused ones 0, and how many there are
     pub held: [u8; Decoder::PENDING],
@@ -49,17 +50,10 @@ impl Builder {
     }
 }
 
-// The answer of a call that builds.
-#[derive(Clone, Copy)]
-pub enum Building {
-    Done,
-    Refused(Refusal),
-}
-
 // What a call that builds answers, and the state then.
-#[derive(Clone, Copy)]
+#[derive(Clone, Copy, PartialEq, Eq)]
 pub struct Built {
-    pub answer: Building,
+    pub answer: Result<(), Refusal>,
     pub state: Builder,
 }
 
@@ -106,18 +100,18 @@ fn is_sound(state: Builder) -> bool
 }
 
 // May a state take so many bytes more, with so many numbers in the row?
-pub(crate) fn check(state: Builder, more: usize, room: usize) -> Building
-    ensures { told_building result ≡ build_says state more room }
+pub(crate) fn check(state: Builder, more: usize, room: usize) -> Result<(), Refusal>
+    ensures { told_checked result ≡ build_says state more room }
 {
     if !is_sound(state) {
-        return Building::Refused(Refusal::BadState);
+        return Err(Refusal::BadState);
     }
     if Decoder::LIMIT - state.taken < more {
-        return Building::Refused(Refusal::OverLimit);
+        return Err(Refusal::OverLimit);
     }
     let needed = index_checkpoint::needed(state.taken + more);
     if room < needed {
-        return Building::Refused(Refusal::NoRoom { needed });
+        return Err(Refusal::NoRoom { needed });
     }
-    Building::Done
+    Ok(())
 }
