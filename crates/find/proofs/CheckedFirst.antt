@@ -2,7 +2,7 @@
 use mathlib.Core.Path.{◌≡◌, refl, sym, ap, ◌∙◌}
 use Prim.Native.Nat.{ℕ, ◌-◌, ◌≤◌}
 use mathlib.Core.List.{List, [], ◌∷◌}
-use mathlib.Core.Option.{Option, none, some}
+use Rattle.std.specs.Prelude.{Option, None, Some, Ok}
 use lib.ListN.{length, take, drop, length-drop, get_or}
 use lib.Seq.{take_all}
 use borrow.Author.Tests.{le-ltb}
@@ -11,7 +11,6 @@ use Rattle.terms.specs.Limits.{limit}
 use Rattle.terms.specs.Strict.{damages, strictly, damaged, limited, check_says}
 use Rattle.terms.specs.Told.{told_refusal, told_checked}
 use Rattle.terms.specs.declared.Refusal.{Refusal}
-use Rattle.terms.specs.declared.Checked.TheVariants.{WellFormed}
 use Rattle.terms.proofs.AnswersWritten.{limited-refused, strictly-refused}
 use Rattle.terms.proofs.ConvertsBack.{limited-granted, strictly-granted}
 use Rattle.terms.proofs.ToldBack.{no_zero}
@@ -24,7 +23,7 @@ use Rattle.find.proofs.FirstMatch.{match_stands}
 pub record Found (entry needle : List ℕ) (k : ℕ) : Type 0 where
   pub within : length entry ≤ limit
   pub clean : damages bytes needle ≡ []
-  pub first : first_match entry needle ≡ some k
+  pub first : first_match entry needle ≡ Some k
   pub stands : Stands entry needle k
 
 module _ (entry needle : List ℕ) where
@@ -32,14 +31,14 @@ module _ (entry needle : List ℕ) where
   find-refused r =
       limited-refused entry (limited-refused needle (strictly-refused damaged (damages bytes needle) (match_says (first_match entry needle)) r))
 
-  pub find-granted : told_checked WellFormed ≡ limited entry (check_says bytes needle) → {says : List ℕ} → says ≡ match_says (first_match entry needle)
-      → says ≡ find_says entry needle
+  pub find-granted : told_checked (Ok tt) ≡ limited entry (check_says bytes needle) → {found : Option ℕ} → found ≡ first_match entry needle
+      → match_says found ≡ find_says entry needle
   find-granted e h =
       let a = limited-granted entry (check_says bytes needle) (sym e) in
       let b = limited-granted needle (strictly damaged (damages bytes needle) (0 ∷ [])) a.1 in
       let d = strictly-granted damaged (λ x. refl) (damages bytes needle) (0 ∷ []) b.1 in
       let says : find_says entry needle ≡ match_says (first_match entry needle) = rw (le-ltb limit (length entry) a.0, le-ltb limit (length needle) b.0, d.0) in
-      h ∙ sym says
+      ap match_says h ∙ sym says
 
   -- ---- the entry from the match on
 
@@ -55,13 +54,13 @@ module _ (entry needle : List ℕ) where
       let d = strictly-granted damaged (λ x. refl) (damages bytes needle) (match_says (first_match entry needle)) b.1 in
       (a.0, d.0, d.1)
 
-  said-some : (o : Option ℕ) (k : ℕ) → match_says o ≡ 0 ∷ k ∷ [] → o ≡ some k
-  said-some none k e = let z : ◌≡◌ {A = ℕ} 1 2 = ap length e in absurd (omega arith)
-  said-some (some i) k e = ap some (ap (λ (l : List ℕ). get_or l 1 0) e)
+  said-some : (o : Option ℕ) (k : ℕ) → match_says o ≡ 0 ∷ k ∷ [] → o ≡ Some k
+  said-some None k e = let z : ◌≡◌ {A = ℕ} 1 2 = ap length e in absurd (omega arith)
+  said-some (Some i) k e = ap (λ (x : ℕ). Some x) (ap (λ (l : List ℕ). get_or l 1 0) e)
 
-  said-none : (o : Option ℕ) → match_says o ≡ 0 ∷ [] → o ≡ none
-  said-none none e = refl
-  said-none (some i) e = let z : ◌≡◌ {A = ℕ} 2 1 = ap length e in absurd (omega arith)
+  said-none : (o : Option ℕ) → match_says o ≡ 0 ∷ [] → o ≡ None
+  said-none None e = refl
+  said-none (Some i) e = let z : ◌≡◌ {A = ℕ} 2 1 = ap length e in absurd (omega arith)
 
   pub found-match : (k : ℕ) → 0 ∷ k ∷ [] ≡ find_says entry needle → Found entry needle k
   found-match k e =

@@ -3,7 +3,7 @@ use mathlib.Core.Path.{◌≡◌, refl, sym, ap, ◌∙◌, subst}
 use Prim.Native.Nat.{ℕ, zero, suc, ◌+◌, ◌<◌}
 use mathlib.Core.Bool.{true, false, true≢false}
 use mathlib.Core.List.{List, [], ◌∷◌}
-use mathlib.Core.Option.{Option, none, some}
+use Rattle.std.specs.Prelude.{Option, None, Some}
 use lib.ListN.{length, take, drop, length-drop}
 use lib.Seq.{length-take-le, get_or-take, get_or-drop, ext_get_or}
 use lib.Dec.{eqb}
@@ -77,10 +77,10 @@ pub record First (entry needle : List ℕ) (k : ℕ) : Type 0 where
 
 -- what an answer says, counted on from a
 abbrev Answers : ℕ → List ℕ → List ℕ → Option ℕ → Type 0
-Answers a entry needle none = (k : ℕ) → Stands entry needle k → ⊥
-Answers a entry needle (some k) = (j : ℕ) × ((k ≡ a + j) × First entry needle j)
+Answers a entry needle None = (k : ℕ) → Stands entry needle k → ⊥
+Answers a entry needle (Some k) = (j : ℕ) × ((k ≡ a + j) × First entry needle j)
 
-here : (a : ℕ) (entry needle : List ℕ) → begins entry needle ≡ true → Answers a entry needle (some a)
+here : (a : ℕ) (entry needle : List ℕ) → begins entry needle ≡ true → Answers a entry needle (Some a)
 here a entry needle e = (0, (omega arith, record { stands = begins-stands entry needle e; none = λ j h s. omega arith }))
 
 not-here : (entry needle : List ℕ) → begins entry needle ≡ false → Stands entry needle 0 → ⊥
@@ -88,12 +88,12 @@ not-here entry needle e s = true≢false (sym (stands-begins entry needle s) ∙
 
 behind : (a c : ℕ) (text needle : List ℕ) → begins (c ∷ text) needle ≡ false → (o : Option ℕ)
     → Answers (suc a) text needle o → Answers a (c ∷ text) needle o
-behind a c text needle e none f = never
+behind a c text needle e None f = never
   where
     never : (k : ℕ) → Stands (c ∷ text) needle k → ⊥
     never zero s = not-here (c ∷ text) needle e s
     never (suc k) s = f k (sooner c text needle k s)
-behind a c text needle e (some k) f = (suc f.0, (omega (arith, f.1.0), record { stands = later c text needle f.0 f.1.1.stands; none = before }))
+behind a c text needle e (Some k) f = (suc f.0, (omega (arith, f.1.0), record { stands = later c text needle f.0 f.1.1.stands; none = before }))
   where
     before : (j : ℕ) → j < suc f.0 → Stands (c ∷ text) needle j → ⊥
     before zero h s = not-here (c ∷ text) needle e s
@@ -114,36 +114,36 @@ first-answers entry needle = answers 0 entry needle
 
 -- ---- both ways
 
-pub match_first : (entry needle : List ℕ) (k : ℕ) → first_match entry needle ≡ some k → First entry needle k
+pub match_first : (entry needle : List ℕ) (k : ℕ) → first_match entry needle ≡ Some k → First entry needle k
 match_first entry needle k e =
     let f = subst (Answers 0 entry needle) e (first-answers entry needle) in
     subst (First entry needle) (omega (arith, f.1.0)) f.1.1
 
-pub match_stands : (entry needle : List ℕ) (k : ℕ) → first_match entry needle ≡ some k → Stands entry needle k
+pub match_stands : (entry needle : List ℕ) (k : ℕ) → first_match entry needle ≡ Some k → Stands entry needle k
 match_stands entry needle k e = (match_first entry needle k e).stands
 
-pub match_none : (entry needle : List ℕ) → first_match entry needle ≡ none → (k : ℕ) → Stands entry needle k → ⊥
+pub match_none : (entry needle : List ℕ) → first_match entry needle ≡ None → (k : ℕ) → Stands entry needle k → ⊥
 match_none entry needle e = subst (Answers 0 entry needle) e (first-answers entry needle)
 
-pub first_match_lem : (entry needle : List ℕ) (k : ℕ) → First entry needle k → first_match entry needle ≡ some k
+pub first_match_lem : (entry needle : List ℕ) (k : ℕ) → First entry needle k → first_match entry needle ≡ Some k
 first_match_lem entry needle k f = go (first_match entry needle) (first-answers entry needle)
   where
-    go : (o : Option ℕ) → Answers 0 entry needle o → o ≡ some k
-    go none n = absurd (n k f.stands)
-    go (some i) n =
+    go : (o : Option ℕ) → Answers 0 entry needle o → o ≡ Some k
+    go None n = absurd (n k f.stands)
+    go (Some i) n =
         let g = n.1.1 in
         under n.0 k (λ h. absurd (f.none n.0 h g.stands))
-        (λ h. under k n.0 (λ l. absurd (g.none k l f.stands)) (λ l. ap some (omega (arith, n.1.0))))
+        (λ h. under k n.0 (λ l. absurd (g.none k l f.stands)) (λ l. ap (λ (x : ℕ). Some x) (omega (arith, n.1.0))))
 
-pub none_match : (entry needle : List ℕ) → ((k : ℕ) → Stands entry needle k → ⊥) → first_match entry needle ≡ none
+pub none_match : (entry needle : List ℕ) → ((k : ℕ) → Stands entry needle k → ⊥) → first_match entry needle ≡ None
 none_match entry needle f = go (first_match entry needle) (first-answers entry needle)
   where
-    go : (o : Option ℕ) → Answers 0 entry needle o → o ≡ none
-    go none n = refl
-    go (some i) n = absurd (f n.0 n.1.1.stands)
+    go : (o : Option ℕ) → Answers 0 entry needle o → o ≡ None
+    go None n = refl
+    go (Some i) n = absurd (f n.0 n.1.1.stands)
 
 -- an empty needle stands at 0
-pub empty_match : (entry needle : List ℕ) → length needle ≡ 0 → first_match entry needle ≡ some 0
+pub empty_match : (entry needle : List ℕ) → length needle ≡ 0 → first_match entry needle ≡ Some 0
 empty_match entry needle e =
     first_match_lem entry needle 0
     (record {

@@ -3,7 +3,7 @@ use mathlib.Core.Path.{◌≡◌, refl, sym, ap, ◌∙◌}
 use Prim.Native.Nat.{ℕ, ◌+◌, ◌<◌}
 use mathlib.Core.Bool.{false, true≢false}
 use mathlib.Core.List.{List, [], ◌∷◌, ◌++◌, append_assoc}
-use mathlib.Core.Option.{some}
+use Rattle.std.specs.Prelude.{Some}
 use lib.ListN.{length, take, drop, take-append-drop}
 use lib.Seq.{length-take-le, drop-drop}
 use native.Mathlib.Omega.{arith}
@@ -88,12 +88,12 @@ match_bounded entry (y ∷ ys) k d h s =
     stands_bounded entry y ys k (whole_tags (cut bytes (y ∷ ys)) (none-whole 0 (cut bytes (y ∷ ys)) d)) s
 
 -- and so of the first match, as an empty needle's is at 0
-pub first_bounded : (entry needle : List ℕ) (k : ℕ) → damages bytes needle ≡ [] → first_match entry needle ≡ some k → Bounded entry needle k
+pub first_bounded : (entry needle : List ℕ) (k : ℕ) → damages bytes needle ≡ [] → first_match entry needle ≡ Some k → Bounded entry needle k
 first_bounded entry [] k d e =
     let z : k ≡ 0 = some_same (sym e ∙ empty_match entry [] refl) in
     let b : Boundary entry 0 = record { front = []; behind = cut bytes entry; divided = refl; sized = refl } in
     rw z (record { begin = b; end = b })
   where
-    some_same : {a b : ℕ} → some a ≡ some b → a ≡ b
+    some_same : {a b : ℕ} → Some a ≡ Some b → a ≡ b
     some_same q = cc
 first_bounded entry (y ∷ ys) k d e = match_bounded entry (y ∷ ys) k d (omega arith) (match_stands entry (y ∷ ys) k e)

@@ -1,11 +1,12 @@
 -- The walk of a search: no match lies before the place that it has come to, and so many bytes there are known to match.
 use mathlib.Core.Path.{◌≡◌, sym, ap, ◌∙◌}
 use Prim.Native.Nat.{ℕ, ◌+◌, ◌-◌, ◌<◌, ◌≤◌}
-use mathlib.Core.List.{List, [], ◌∷◌}
+use mathlib.Core.List.{List}
 use lib.ListN.{length}
 use native.Mathlib.Omega.{arith}
 use Rattle.theory.proofs.Cases.{under}
-use Rattle.find.specs.Match.{first_match, match_says}
+use Rattle.std.specs.Prelude.{None, Some}
+use Rattle.find.specs.Match.{first_match}
 use Rattle.find.specs.Inside.Compared.{at, Stands, Agrees, Passed}
 use Rattle.find.specs.Inside.Cuts.{Rep, Cut}
 use Rattle.find.proofs.FirstMatch.{first_match_lem, none_match}
@@ -40,11 +41,11 @@ pub walked-passed : (entry needle : List ℕ) (place seen : ℕ) → place + len
 walked-passed entry needle place seen h w = record { onward = omega arith; inside = h; none = λ k u v s. w.none k v s }
 
 module _ (entry needle : List ℕ) (place seen : ℕ) (w : Walked entry needle place seen) where
-  pub walked_end : length entry - place < length needle → 0 ∷ [] ≡ match_says (first_match entry needle)
+  pub walked_end : length entry - place < length needle → None ≡ first_match entry needle
   walked_end h = rw (none_match entry needle (λ k s. under k place (λ u. w.none k u s) (λ u. omega (arith, s.inside))))
 
   pub walked-found : place + length needle ≤ length entry → ((i : ℕ) → i < length needle → at entry (place + i) ≡ at needle i)
-      → 0 ∷ place ∷ [] ≡ match_says (first_match entry needle)
+      → Some place ≡ first_match entry needle
   walked-found h e = rw (first_match_lem entry needle place (record { stands = record { inside = h; same = e }; none = w.none }))
 
   -- one place on: some byte differs
@@ -101,7 +102,7 @@ module _ (entry needle : List ℕ) (place seen : ℕ) (w : Walked entry needle p
 
       module _ (b : length needle ≤ i) (j : ℕ) (o : Agrees entry needle place seen cut j) where
         -- both parts agree
-        pub walked_all : cut ≤ j → 0 ∷ place ∷ [] ≡ match_says (first_match entry needle)
+        pub walked_all : cut ≤ j → Some place ≡ first_match entry needle
         walked_all z =
             walked-found h
             (λ d u. under d cut

@@ -5,19 +5,18 @@ use mathlib.Core.Bool.{cond}
 use mathlib.Core.List.{List}
 use lib.ListN.{length, get_or}
 use lib.Dec.{eqb}
-use Rattle.terms.proofs.ToldBack.{by-back, back_refusal, refusal_back, no_zero}
-use Rattle.find.specs.Match.{told_match}
-use Rattle.find.specs.declared.Match.{Match}
-use Rattle.find.specs.declared.Match.TheVariants.{At, Absent, Refused}
+use Rattle.std.specs.Prelude.{Option, None, Some, option_to_list, Result}
+use Rattle.terms.specs.declared.Refusal.{Refusal}
+use Rattle.terms.proofs.ToldBack.{told_lem}
+use Rattle.find.specs.Match.{told_match, match_says}
 
-back : List ℕ → Match
-back l = cond (eqb (get_or l 0 0) 0) (cond (eqb (length l) 1) Absent (At (get_or l 1 0))) (Refused (back_refusal l))
+back : List ℕ → Option ℕ
+back l = cond (eqb (length l) 1) None (Some (get_or l 1 0))
 
-match_back : (a : Match) → back (told_match a) ≡ a
+match_back : (o : Option ℕ) → back (match_says o) ≡ o
 unfolding back
-match_back (At k) = refl
-match_back Absent = refl
-match_back (Refused r) = rw (no_zero r, refusal_back r)
+match_back (Some k) = refl
+match_back None = refl
 
-pub told_match_lem : (a b : Match) → told_match a ≡ told_match b → a ≡ b
-told_match_lem = by-back told_match back match_back
+pub told_match_lem : (a b : Result (Option ℕ) Refusal) → told_match a ≡ told_match b → a ≡ b
+told_match_lem = told_lem option_to_list back match_back

@@ -1,10 +1,9 @@
 // The two-way search of Crochemore and Perrin: to the right of the needle's critical cut first, then to its left.
 ghost use Rattle.std.specs.Prelude.{◌≡◌, ◌<◌, max, length};
-ghost use Rattle.find.specs.Match.{told_match, match_says, first_match};
+ghost use Rattle.find.specs.Match.{first_match};
 ghost use Rattle.find.specs.Inside.Compared.{at, Rare, Passed};
 ghost use Rattle.find.specs.Inside.Cuts.{Cut};
 
-use crate::Match;
 use crate::ahead::Ahead;
 use crate::critical::Plan;
 
@@ -16,10 +15,10 @@ fn later(a: usize, b: usize) -> usize
 }
 
 // By a plan, from a place on. The first `seen` bytes of the needle are known to match; where none is, it looks ahead when that is due.
-fn walk(entry: &[u8], needle: &[u8], from: usize, plan: Plan, rare: Ahead) -> Match
+fn walk(entry: &[u8], needle: &[u8], from: usize, plan: Plan, rare: Ahead) -> Option<usize>
     requires cut { Cut (at needle.now) (length needle.now) plan.cut plan.shift plan.keep }
     requires rare { Rare needle.now rare.first rare.second × Passed entry.now needle.now 0 from }
-    ensures { told_match result ≡ match_says (first_match entry.now needle.now) }
+    ensures { result ≡ first_match entry.now needle.now }
 {
     let m = needle.len();
     let n = entry.len();
@@ -30,7 +29,7 @@ fn walk(entry: &[u8], needle: &[u8], from: usize, plan: Plan, rare: Ahead) -> Ma
     while m <= n - place {
         let at = crate::ahead::next(entry, needle, place, seen, ahead);
         if n - at < m {
-            return Match::Absent;
+            return None;
         }
         let i = crate::compare::agree(entry, needle, at, later(cut, seen), m);
         if i < m {
@@ -41,32 +40,32 @@ fn walk(entry: &[u8], needle: &[u8], from: usize, plan: Plan, rare: Ahead) -> Ma
         }
         let j = crate::compare::agree(entry, needle, at, seen, cut);
         if cut <= j {
-            return Match::At(at);
+            return Some(at);
         }
         ahead = crate::ahead::behind_look(ahead, seen, at - place, j);
         place = at + plan.shift;
         seen = plan.keep;
     }
-    Match::Absent
+    None
 }
 
 // Where looking ahead finds no place, or the needle stands at the first that it finds, no plan is made.
-pub(crate) fn search(entry: &[u8], needle: &[u8]) -> Match
+pub(crate) fn search(entry: &[u8], needle: &[u8]) -> Option<usize>
     requires { 0 < length needle.now }
-    ensures { told_match result ≡ match_says (first_match entry.now needle.now) }
+    ensures { result ≡ first_match entry.now needle.now }
 {
     let m = needle.len();
     let n = entry.len();
     if n < m {
-        return Match::Absent;
+        return None;
     }
     let rare = crate::rare::rarest_two(needle);
     let at = crate::ahead::onward(entry, needle, 0, rare);
     if n - at < m {
-        return Match::Absent;
+        return None;
     }
     if m <= crate::compare::agree(entry, needle, at, 0, m) {
-        return Match::At(at);
+        return Some(at);
     }
     walk(entry, needle, at + 1, crate::critical::cut_of(needle), rare)
 }

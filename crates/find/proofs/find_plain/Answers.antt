@@ -1,13 +1,12 @@
 -- `find_plain` meets its contract: the checks come first.
-use mathlib.Core.Path.{sym, ap, ◌∙◌}
-use Rattle.terms.specs.Told.{told_checked}
+use Rattle.std.proofs.lemmas.Result.{err_from_is_err_and}
 use Rattle.find.proofs.CheckedFirst.{find-refused, find-granted}
 use Rattle.find.proofs.find_plain.Goals as goal
 
-pub returns-in-Refused : goal.returns-in-Refused
-returns-in-Refused c =
-    let a = c.args in
-    find-refused a.entry.now a.needle.now c.in-Refused.r (sym (ap told_checked c.in-Refused.is) ∙ c.checked.ensures)
+pub returns-in_err-checked : goal.returns-in_err-checked
+returns-in_err-checked c =
+    let p = err_from_is_err_and c.from_residual.result c.from_residual.ensures.1 in
+    rw (p.1, p.2) (find-refused c.args.entry.now c.args.needle.now c.in_err-checked.field-0.0 c.in_err-checked.ensures)
 
 pub returns : goal.returns
-returns c = find-granted _ _ (sym (ap told_checked c.in_default.is) ∙ c.checked.ensures) c.search.ensures
+returns c = find-granted _ _ c.in_ok-checked.ensures c.search.ensures
