@@ -15,19 +15,18 @@ ghost use Rattle.convert_point.specs.Inside.Passes.{Passes, PassesTo};
 
 use convert_point::Target;
 use convert_utf16_blocks::Part;
-use terms::{Checked, Decoder, Refusal, Written};
+use terms::{Decoder, Refusal};
 
 // How many places a text takes in another form.
 fn need(text: &[u16], target: Target) -> usize
     requires { length text.now ≤ limit }
     ensures { result ≡ length (converted utf16 (form_of target) text.now) }
 {
-    let mut at: usize = 0;
+    let mut rest = text;
     let mut total: usize = 0;
-    while at < text.len() {
-        let p = utf16::point(&text[at..]);
+    while let Some(p) = utf16::point(rest) {
         total += convert_point::places(target, p.number);
-        at += p.size;
+        rest = &rest[p.size..];
     }
     total
 }
@@ -40,7 +39,7 @@ fn count_segments(text: &[u16], stop: usize) -> Part
     let mut at: usize = 0;
     let mut places: usize = 0;
     while at < stop {
-        let p = utf16::point(&text[at..]);
+        let p = utf16::point(&text[at..]).unwrap();
         places += convert_point::bytes_of(p.number);
         at += p.size;
     }
@@ -116,7 +115,7 @@ fn write_segments(text: &[u16], stop: usize, out: &mut [u8]) -> Part
     let mut at: usize = 0;
     let mut done: usize = 0;
     while at < stop {
-        let p = utf16::point(&text[at..]);
+        let p = utf16::point(&text[at..]).unwrap();
         done += put_sequence(&mut out[done..], p.number);
         at += p.size;
     }
@@ -172,12 +171,11 @@ fn write_units(text: &[u16], out: &mut [u16]) -> usize
     requires { length (converted utf16 utf16 text.now) ≤ length out.old }
     ensures { Puts (converted utf16 utf16 text.now) out.old out.new result }
 {
-    let mut at: usize = 0;
+    let mut rest = text;
     let mut done: usize = 0;
-    while at < text.len() {
-        let p = utf16::point(&text[at..]);
+    while let Some(p) = utf16::point(rest) {
         done += convert_point::put_units(&mut out[done..], p.number);
-        at += p.size;
+        rest = &rest[p.size..];
     }
     done
 }
@@ -187,18 +185,17 @@ fn write_points(text: &[u16], out: &mut [u32]) -> usize
     requires { length (converted utf16 code_points text.now) ≤ length out.old }
     ensures { Puts (converted utf16 code_points text.now) out.old out.new result }
 {
-    let mut at: usize = 0;
+    let mut rest = text;
     let mut done: usize = 0;
-    while at < text.len() {
-        let p = utf16::point(&text[at..]);
+    while let Some(p) = utf16::point(rest) {
         done += convert_point::put_point(&mut out[done..], p.number);
-        at += p.size;
+        rest = &rest[p.size..];
     }
     done
 }
 
 // The text as bytes, with U+FFFD for each damage.
-pub fn repair_to_bytes(text: &[u16], out: &mut [u8]) -> Written
+pub fn repair_to_bytes(text: &[u16], out: &mut [u8]) -> Result<usize, Refusal>
     ensures { Writes
         (repair_says (length out.old) text.now (converted utf16 utf8 text.now))
         (converted utf16 utf8 text.now)
@@ -207,20 +204,20 @@ pub fn repair_to_bytes(text: &[u16], out: &mut [u8]) -> Written
         result }
 {
     if Decoder::LIMIT < text.len() {
-        return Written::Refused(Refusal::OverLimit);
+        return Err(Refusal::OverLimit);
     }
     if convert_point::most(Target::Units, Target::Bytes, text.len()) <= out.len() {
-        return Written::Count(write_bytes(text, out));
+        return Ok(write_bytes(text, out));
     }
     let bytes = need_bytes(text);
     if out.len() < bytes {
-        return Written::Refused(Refusal::NoRoom { needed: bytes });
+        return Err(Refusal::NoRoom { needed: bytes });
     }
-    Written::Count(write_bytes(text, out))
+    Ok(write_bytes(text, out))
 }
 
 // The repaired form of a text: whole segments as they are, U+FFFD for each damage.
-pub fn repair(text: &[u16], out: &mut [u16]) -> Written
+pub fn repair(text: &[u16], out: &mut [u16]) -> Result<usize, Refusal>
     ensures { Writes
         (repair_says (length out.old) text.now (repaired utf16 text.now))
         (repaired utf16 text.now)
@@ -229,17 +226,17 @@ pub fn repair(text: &[u16], out: &mut [u16]) -> Written
         result }
 {
     if Decoder::LIMIT < text.len() {
-        return Written::Refused(Refusal::OverLimit);
+        return Err(Refusal::OverLimit);
     }
     let units = need(text, Target::Units);
     if out.len() < units {
-        return Written::Refused(Refusal::NoRoom { needed: units });
+        return Err(Refusal::NoRoom { needed: units });
     }
-    Written::Count(write_units(text, out))
+    Ok(write_units(text, out))
 }
 
 // The text as code points, or its need where the output has no room for them.
-fn fit_points(text: &[u16], out: &mut [u32]) -> Written
+fn fit_points(text: &[u16], out: &mut [u32]) -> Result<usize, Refusal>
     requires { length text.now ≤ limit }
     ensures { Writes
         (roomed (length out.old) (converted utf16 code_points text.now))
@@ -250,13 +247,13 @@ fn fit_points(text: &[u16], out: &mut [u32]) -> Written
 {
     let points = need(text, Target::Points);
     if out.len() < points {
-        return Written::Refused(Refusal::NoRoom { needed: points });
+        return Err(Refusal::NoRoom { needed: points });
     }
-    Written::Count(write_points(text, out))
+    Ok(write_points(text, out))
 }
 
 // The text as bytes; strict, so that damage is refused.
-pub fn to_bytes(text: &[u16], out: &mut [u8]) -> Written
+pub fn to_bytes(text: &[u16], out: &mut [u8]) -> Result<usize, Refusal>
     ensures { Writes
         (convert_says damaged utf16 utf8 (length out.old) text.now)
         (converted utf16 utf8 text.now)
@@ -264,14 +261,12 @@ pub fn to_bytes(text: &[u16], out: &mut [u8]) -> Written
         out.new
         result }
 {
-    match utf16_check::check(text) {
-        Checked::WellFormed => repair_to_bytes(text, out),
-        Checked::Refused(r) => Written::Refused(r),
-    }
+    utf16_check::check(text)?;
+    repair_to_bytes(text, out)
 }
 
 // The text as code points; strict, so that damage is refused.
-pub fn to_points(text: &[u16], out: &mut [u32]) -> Written
+pub fn to_points(text: &[u16], out: &mut [u32]) -> Result<usize, Refusal>
     ensures { Writes
         (convert_says damaged utf16 code_points (length out.old) text.now)
         (converted utf16 code_points text.now)
@@ -279,8 +274,6 @@ pub fn to_points(text: &[u16], out: &mut [u32]) -> Written
         out.new
         result }
 {
-    match utf16_check::check(text) {
-        Checked::WellFormed => fit_points(text, out),
-        Checked::Refused(r) => Written::Refused(r),
-    }
+    utf16_check::check(text)?;
+    fit_points(text, out)
 }

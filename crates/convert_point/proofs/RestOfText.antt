@@ -1,21 +1,30 @@
 -- A walk that keeps the rest of its text: how far it has come, and the code point that it meets there, over any form.
-use mathlib.Core.Path.{◌≡◌, refl, sym, ap, ◌∙◌}
+use mathlib.Core.Path.{◌≡◌, refl, sym, ap, subst, ◌∙◌}
 use Prim.Native.Nat.{ℕ, ◌+◌, ◌-◌, ◌≤◌, ◌<◌}
 use mathlib.Core.List.{List, [], ◌∷◌}
 use lib.ListN.{length, drop, length-drop}
 use native.Mathlib.Omega.{arith}
 use Rattle.std.specs.Prelude.{Option, None, Some}
+use Rattle.std.specs.Option.{IsSome}
 use Rattle.terms.specs.Form.{Form, first_point, point_says}
 use Rattle.terms.specs.declared.Point.{Point}
 use Rattle.terms.proofs.PointTold.{point_read}
 use Rattle.terms.proofs.FaithfulForms.{Faithful}
 use Rattle.terms.proofs.WalkBySegments.{part_is}
-use Rattle.terms.proofs.WalkWrites.{Met, met, lent, lent-there}
+use Rattle.terms.proofs.WalkWrites.{Met, met, lent, lent-long, lent-there}
 
 -- the code point that was read in `&text[at..]`
 pub met_at : {F : Form} → Faithful F → (text : List ℕ) (at : ℕ) → at < length text → (p : Point) → Some p ≡ first_point F (lent text at)
     → Met F text at p.size p.number
 met_at {F} f text at h p e = met f text at h p.size p.number (point_read F (lent text at) p e).1
+
+-- there is one in front of the end
+pub point_there : (F : Form) (text : List ℕ) (at : ℕ) → at < length text → (o : Option Point) → o ≡ first_point F (lent text at) → IsSome o
+point_there F text at h o e = go (lent text at) (lent-long text at) e
+  where
+    go : (t : List ℕ) → length t ≡ length text - at → o ≡ first_point F t → IsSome o
+    go [] l e = absurd (omega arith)
+    go (x ∷ xs) l e = subst IsSome (sym e) refl
 
 -- there is none in an empty text
 pub none_read : (F : Form) (text : List ℕ) → None ≡ first_point F text → text ≡ []

@@ -1,54 +1,50 @@
 -- What is counted is what the segments passed take.
 use Prim.Native.Nat.{◌+◌}
 use native.Mathlib.Omega.{arith}
-use Rattle.terms.proofs.WalkWrites.{Met, met}
+use Rattle.terms.proofs.WalkWrites.{Met}
 use Rattle.utf8.specs.Scalar.{utf8}
 use Rattle.utf16.specs.Scalar.{utf16}
 use Rattle.utf16.proofs.FaithfulForm.{utf16-faithful}
-use Rattle.convert_point.proofs.WalkInPasses.{Passed, passed_start, passed-few, passed-next, passed-passes}
+use Rattle.convert_point.proofs.RestOfText.{met_at, point_there}
+use Rattle.convert_point.proofs.WalkInPasses.{Passed, passed-few, passed-next, passed-passes}
 use Rattle.convert_point.specs.declared.Target.TheVariants.{Bytes, Units}
 use Rattle.convert_point.proofs.Enough.{text_few}
-use borrow.Author.Rules.{rules}
-use Rattle.convert_from_utf16.proofs.count_segments.Goals.{After-bytes_of-places, After-point-p}
+use mathlib.Core.Path.{sym, ◌∙◌}
+use Rattle.convert_from_utf16.proofs.count_segments.Goals.{After-bytes_of-places, After-unwrap-p}
 use Rattle.convert_from_utf16.proofs.count_segments.Goals as goal
 
-pub loop-at-init : goal.loop-at-init
-loop-at-init c = passed_start utf16 utf8 c.args.text.now
-
-pub slice_bounds-point-count : goal.slice_bounds-point-count
-slice_bounds-point-count c = let i = c.loop-at.invariant.inside in search rules
-
-pub slice_bounds-point-start : goal.slice_bounds-point-start
-slice_bounds-point-start c = let i = c.loop-at.invariant.inside in search rules
+pub unwrap-p-requires : goal.unwrap-p-requires
+unwrap-p-requires c =
+    point_there utf16 c.args.text.now c.loop-at.at (omega (arith, c.loop-at-test.true, c.requires)) c.point.result c.point.ensures
 
 -- the code point that was read
-here : (c : After-point-p)
-    → Met utf16 c.args.text.now c.loop-at.at c.point-p.result.size c.point-p.result.number
+here : (c : After-unwrap-p)
+    → Met utf16 c.args.text.now c.loop-at.at c.unwrap-p.result.size c.unwrap-p.result.number
 here c =
-    met utf16-faithful c.args.text.now c.loop-at.at (omega (arith, c.loop-at-test.true, c.requires)) _ _ c.point-p.ensures
+    met_at utf16-faithful c.args.text.now c.loop-at.at (omega (arith, c.loop-at-test.true, c.requires)) c.unwrap-p.result (sym c.unwrap-p.ensures ∙ c.point.ensures)
 
 -- and what is counted then
 after : (c : After-bytes_of-places)
-    (here : Met utf16 c.args.text.now c.loop-at.at c.point-p.result.size c.point-p.result.number)
-    → Passed utf16 utf8 c.args.text.now (c.loop-at.at + c.point-p.result.size) (c.loop-at.places + c.bytes_of-places.result)
+    (here : Met utf16 c.args.text.now c.loop-at.at c.unwrap-p.result.size c.unwrap-p.result.number)
+    → Passed utf16 utf8 c.args.text.now (c.loop-at.at + c.unwrap-p.result.size) (c.loop-at.places + c.bytes_of-places.result)
 after c here =
     rw c.bytes_of-places.ensures (passed-next utf16 utf8 c.args.text.now c.loop-at.at c.loop-at.places c.loop-at.invariant _ _ here)
 
 pub overflow_add-places : goal.overflow_add-places
 overflow_add-places c =
     let t = c.args.text.now in
-    let h = here (goal.at.overflow_add-places c).After-point-p in
+    let h = here (goal.at.overflow_add-places c).After-unwrap-p in
     omega (arith, passed-few utf16 utf8 t _ _ (after c h), text_few Units Bytes t, c.requires)
 
 pub overflow_add-at : goal.overflow_add-at
-overflow_add-at c = let m = here (goal.at.overflow_add-at c).After-point-p in omega (arith, m.inside)
+overflow_add-at c = let m = here (goal.at.overflow_add-at c).After-unwrap-p in omega (arith, m.inside)
 
 pub loop-at-smaller : goal.loop-at-smaller
-loop-at-smaller c = let m = here (goal.at.loop-at-smaller c).After-point-p in omega (arith, m.some, m.inside)
+loop-at-smaller c = let m = here (goal.at.loop-at-smaller c).After-unwrap-p in omega (arith, m.some, m.inside)
 
 pub loop-at-preserved : goal.loop-at-preserved
 loop-at-preserved c =
-    after (goal.at.loop-at-preserved c).After-bytes_of-places (here (goal.at.loop-at-preserved c).After-point-p)
+    after (goal.at.loop-at-preserved c).After-bytes_of-places (here (goal.at.loop-at-preserved c).After-unwrap-p)
 
 pub returns : goal.returns
 returns c =

@@ -1,13 +1,13 @@
 -- What is written, and what the rest of the text writes, is the form.
-use Prim.Native.Nat.{◌-◌}
 use lib.ListN.{length}
 use Rattle.terms.proofs.WalkWrites.{Wrote}
-use Rattle.utf16.specs.Scalar.{utf16}
 use Rattle.code_points.specs.Points.{code_points}
+use Rattle.utf16.specs.Scalar.{utf16}
+use Rattle.convert_point.proofs.RestOfText.{come, Rest}
 use Rattle.convert_from_utf16.proofs.write_points.Given as goal
 
-abbrev pub invariant-loop-at : goal.invariant-loop-at
-invariant-loop-at l = Wrote utf16 code_points l.text l.initial.out l.out l.at l.done
+abbrev pub invariant-loop-p : goal.invariant-loop-p
+invariant-loop-p l = Wrote utf16 code_points l.text l.initial.out l.out (come l.text l.rest) l.done × Rest l.text l.rest
 
-abbrev pub decreases-loop-at : goal.decreases-loop-at
-decreases-loop-at l = length l.text - l.at
+abbrev pub decreases-loop-p : goal.decreases-loop-p
+decreases-loop-p l = length l.rest

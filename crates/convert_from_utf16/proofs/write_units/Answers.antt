@@ -1,54 +1,29 @@
 -- What is written, and what the rest of the text writes, is the form.
-use Prim.Native.Nat.{◌+◌}
-use native.Mathlib.Omega.{arith}
-use Rattle.terms.proofs.WalkWrites.{Met, met, back, Wrote, wrote-start, wrote-end}
+use mathlib.Core.Path.{sym, ◌∙◌}
+use Rattle.terms.proofs.WalkWrites.{wrote-end}
 use Rattle.utf16.specs.Scalar.{utf16}
 use Rattle.utf16.proofs.FaithfulForm.{utf16-faithful}
 use Rattle.convert_point.proofs.PointWritten.{wrote-put}
-use Rattle.convert_from_utf16.proofs.write_units.Goals.{After-point-p, After-put_units-done}
+use Rattle.convert_point.proofs.RestOfText.{come, rest-end, met_rest, come_on, rest-on}
 use Rattle.convert_from_utf16.proofs.write_units.Goals as goal
 
-pub loop-at-init : goal.loop-at-init
-loop-at-init c = let a = c.args in wrote-start utf16 utf16 a.text.now a.out.now
-
--- the code point that was read, and what is written so far
-here : (c : After-point-p)
-    → Met utf16 c.args.text.now c.loop-at.at c.point-p.result.size c.point-p.result.number
-here c =
-    met utf16-faithful c.args.text.now c.loop-at.at c.loop-at-test.true _ _ c.point-p.ensures
-
--- and what is written then
-after : (c : After-put_units-done)
-    (here : Met utf16 c.args.text.now c.loop-at.at c.point-p.result.size c.point-p.result.number)
-    → let a = c.args in
-    Wrote utf16 utf16 a.text.now a.out.now (back c.loop-at.out c.loop-at.done c.put_units-done.new.out)
-    (c.loop-at.at + c.point-p.result.size) (c.loop-at.done + c.put_units-done.result)
-after c here =
-    wrote-put utf16 utf16 c.args.text.now c.args.out.now c.loop-at.out c.loop-at.at c.loop-at.done c.loop-at.invariant
-    c.requires _ _ here c.put_units-done.new.out c.put_units-done.result c.put_units-done.ensures
-
-pub overflow_add-done : goal.overflow_add-done
-overflow_add-done c =
-    let h = here (goal.at.overflow_add-done c).After-point-p in
-    let w = after (goal.at.overflow_add-done c).After-put_units-done h in
-    omega (arith, w.within, c.well_formed)
-
-pub overflow_add-at : goal.overflow_add-at
-overflow_add-at c = let m = here (goal.at.overflow_add-at c).After-point-p in omega (arith, m.inside)
-
-pub loop-at-smaller : goal.loop-at-smaller
-loop-at-smaller c = let m = here (goal.at.loop-at-smaller c).After-point-p in omega (arith, m.some, m.inside)
-
-pub loop-at-preserved : goal.loop-at-preserved
-loop-at-preserved c =
-    after (goal.at.loop-at-preserved c).After-put_units-done (here (goal.at.loop-at-preserved c).After-point-p)
-
-pub shape_of-out : goal.shape_of-out
-shape_of-out c = c.loop-at.invariant.long
+pub loop-p-preserved : goal.loop-p-preserved
+loop-p-preserved c =
+    let l = c.loop-p in
+    let text = c.args.text.now in
+    let rest = l.rest.now in
+    let r = l.invariant.1 in
+    let p = c.in-Some.p in
+    let m = met_rest text rest r utf16-faithful p (sym c.in-Some.is ∙ c.point.ensures) in (
+      rw (come_on text rest r p.size m.inside)
+          (wrote-put utf16 utf16 text c.args.out.now l.out (come text rest) l.done l.invariant.0 c.requires _ _ m c.put_units-done.new.out c.put_units-done.result c.put_units-done.ensures),
+      rest-on text rest r p.size m.inside,
+    )
 
 pub returns : goal.returns
 returns c =
-    let a = c.args in
-    let e = wrote-end utf16 utf16 a.text.now a.out.now c.loop-at.out c.loop-at.at c.loop-at.done
-    c.loop-at.invariant c.loop-at-test.false in
+    let l = c.loop-p in
+    let text = c.args.text.now in
+    let e = wrote-end utf16 utf16 text c.args.out.now l.out (come text l.rest.now) l.done l.invariant.0
+    (rest-end text l.rest.now l.invariant.1 utf16 (sym c.in_default.is ∙ c.point.ensures)) in
     record { count = e.0; output = e.1 }
