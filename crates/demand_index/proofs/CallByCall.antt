@@ -9,8 +9,8 @@ use borrow.Author.Tests.{lt-ltb, le-ltb}
 use native.Mathlib.Omega.{arith}
 use Rattle.theory.specs.Course.{Course, uncalled, called, course}
 use Rattle.theory.proofs.Cases.{split, under}
-use Rattle.terms.specs.Told.{is_granted, if_granted}
-use Rattle.index_build.specs.State.{fresh_builder, told_building, build_says}
+use Rattle.terms.specs.Told.{told_checked, is_granted, if_granted}
+use Rattle.index_build.specs.State.{fresh_builder, build_says}
 use Rattle.index_build.specs.declared.state.Builder.{Builder}
 use Rattle.index_build.specs.declared.state.Built as the-built
 use Rattle.index_build.specs.Building.{ended, Feeds, Finishes}
@@ -31,7 +31,7 @@ module _ {b : Builder} {row row' : List ℕ} {q : the-built.Built} (h : Finishes
   either true = record { answer = refl; row_is = refl }
   either false = record { answer = refl; row_is = refl }
 
-  pub finish-builds : Builds (finished b row) row' (is_granted (told_building q.answer))
+  pub finish-builds : Builds (finished b row) row' (is_granted (told_checked q.answer))
   finish-builds = rw (h.answer, h.checkpoints) (either (is_granted (build_says b 0 (length row))))
 
 -- ---- a feed
@@ -52,7 +52,7 @@ module _ (text : List ℕ) where
   -- is what the call handed back
   feeds-behind : {b : Builder} {row row' : List ℕ} (from to cut from' : ℕ) {q : the-built.Built} → to ≡ bring cut from (length text)
       → Feeds b (take (to - from) (drop from text)) row row' q
-      → from' ≡ if_granted (told_building q.answer) to from
+      → from' ≡ if_granted (told_checked q.answer) to from
       → behind (cutter b row from) cut ≡ cutter q.state row' from'
   feeds-behind {b} {row} from to cut from' e h f =
       let p : List ℕ = take (to - from) (drop from text) in
@@ -98,9 +98,9 @@ module _ (text cuts row₀ : List ℕ) where
       along-to = rw brought (bring-end cut from (length text) a.inside)
 
       module _ {row' : List ℕ} {q : the-built.Built} (h : Feeds b (take (to - from) (drop from text)) row row' q)
-          (from' : ℕ) (next : from' ≡ if_granted (told_building q.answer) to from) where
+          (from' : ℕ) (next : from' ≡ if_granted (told_checked q.answer) to from) where
         within : from' ≤ length text
-        within = split (is_granted (told_building q.answer)) (λ e. rw (next, e) along-to) (λ e. rw (next, e) a.inside)
+        within = split (is_granted (told_checked q.answer)) (λ e. rw (next, e) along-to) (λ e. rw (next, e) a.inside)
 
         pub along-next : length row' ≡ length row → Along row' q.state from' (suc k)
         along-next l =

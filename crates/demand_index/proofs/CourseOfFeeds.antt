@@ -14,10 +14,10 @@ use Rattle.theory.specs.Course.{Course, uncalled, granted, called, course}
 use Rattle.theory.proofs.AnyCalls.{course-keeps}
 use Rattle.theory.proofs.Cases.{split, under}
 use Rattle.terms.specs.Limits.{limit}
-use Rattle.terms.specs.Told.{is_granted}
+use Rattle.terms.specs.Told.{told_checked, is_granted}
 use Rattle.index_checkpoint.specs.Checkpoints.{needed}
-use Rattle.index_build.specs.State.{fresh_builder, told_building, build_says}
-use Rattle.index_build.specs.declared.state.Building.TheVariants.{Done}
+use Rattle.index_build.specs.State.{fresh_builder, build_says}
+use Rattle.std.specs.Prelude.{Ok}
 use Rattle.index_build.specs.declared.state.Built as the-built
 use Rattle.index_build.specs.Building.{Finishes}
 use Rattle.index_build.specs.Course.{Caller, feed_of, fed_all}
@@ -89,7 +89,7 @@ pub record Finished (text row row' : List ℕ) : Type 0 where
   pub joined : join (fed_all row pieces).pieces ≡ text
   pub call : the-built.Built
   pub finishes : Finishes (fed_all row pieces).caller.state (fed_all row pieces).caller.row row' call
-  pub grants : is_granted (told_building call.answer) ≡ true
+  pub grants : is_granted (told_checked call.answer) ≡ true
 
 module _ (text cuts row : List ℕ) where
   abbrev end : Cutter
@@ -105,7 +105,7 @@ module _ (text cuts row : List ℕ) where
       record {
         pieces = k.pieces;
         joined = fed-joined text row k ∙ take_all end.from text (ltb-false end.from (length text) e);
-        call = record { answer = Done; state = fresh_builder };
+        call = record { answer = (Ok tt); state = fresh_builder };
         finishes = rw (k.caller, e, g) (finish-done end.caller.state end.caller.row last _ fresh_builder refl refl);
         grants = refl;
       }

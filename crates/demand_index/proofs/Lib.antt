@@ -4,3 +4,5 @@ pub mod AuditSaysYes
 pub mod CallByCall
 -- What the calls on the way through a text leave is what a course of the builder's feeds leaves; where the index was built that course has taken the text and was finished, and otherwise the refusal was right
 pub mod CourseOfFeeds
+-- Two lookups that answer the same are told to be the same by `==`
+pub mod AnswersAlike

@@ -15,19 +15,10 @@ fn agree(text: &[u8], row: &[u32], byte: Bytes, unit: Units, point: Points, line
     requires { AsPlain row.now text.now }
     ensures { result ≡ true }
 {
-    demand_shared::answers::same_placed(
-        index_lookup::at_byte(text, row, byte),
-        place_lookup::at_byte(text, byte),
-    ) & demand_shared::answers::same_placed(
-        index_lookup::at_unit(text, row, unit),
-        place_lookup::at_unit(text, unit),
-    ) & demand_shared::answers::same_placed(
-        index_lookup::at_point(text, row, point),
-        place_lookup::at_point(text, point),
-    ) & demand_shared::answers::same_placed(
-        index_lookup::at_line(text, row, line),
-        place_lookup::at_line(text, line),
-    )
+    (index_lookup::at_byte(text, row, byte) == place_lookup::at_byte(text, byte))
+        & (index_lookup::at_unit(text, row, unit) == place_lookup::at_unit(text, unit))
+        & (index_lookup::at_point(text, row, point) == place_lookup::at_point(text, point))
+        & (index_lookup::at_line(text, row, line) == place_lookup::at_line(text, line))
 }
 
 // A text, cut positions, a row with anything in it, and an offset of each kind: after a build in those pieces the indexed

@@ -5,8 +5,8 @@ use mathlib.Core.Bool.{false, cond}
 use mathlib.Core.List.{List, [], ◌∷◌}
 use lib.ListN.{length, get_or}
 use lib.Dec.{eqb}
-use Rattle.std.specs.Prelude.{Result, Ok, Err}
-use Rattle.terms.specs.Told.{number_of, told_refusal, told_first, told, told_checked, told_written}
+use Rattle.std.specs.Prelude.{is_ok, Result, Ok, Err}
+use Rattle.terms.specs.Told.{is_granted, number_of, told_refusal, told_first, told, told_checked, told_written}
 use Rattle.terms.specs.declared.Cause.{Cause}
 use Rattle.terms.specs.declared.Cause.TheVariants.{Stray, Foreign, Stopped, Ended}
 use Rattle.terms.specs.declared.First.{First}
@@ -103,3 +103,8 @@ told-checked = told_lem (λ _. []) (λ _. tt) (λ _. refl)
 
 pub told-written : (a b : Result ℕ Refusal) → told_written a ≡ told_written b → a ≡ b
 told-written = told_lem (λ n. n ∷ []) (λ l. get_or l 1 0) (λ _. refl)
+
+-- an answer that grants is told so, and only such a one
+pub ok-granted : {A : Type 0} (values : A → List ℕ) (r : Result A Refusal) → is_ok r ≡ is_granted (told values r)
+ok-granted values (Ok a) = refl
+ok-granted values (Err r) = sym (no_zero r)
