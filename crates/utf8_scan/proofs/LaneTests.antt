@@ -1,11 +1,10 @@
 -- The parts of a lane's test, from bits to what they say of the bytes.
 use Prim.Native.Nat.{ℕ, ◌<◌, ◌≤◌}
-use mathlib.Core.Path.{◌≡◌, refl, sym, ap, ◌∙◌}
-use mathlib.Core.Bool.{Bool, true, false, cond, ◌&&◌, ◌||◌, true≢false}
+use mathlib.Core.Path.{◌≡◌, sym, ◌∙◌}
+use mathlib.Core.Bool.{Bool, true, ◌&&◌, ◌||◌, true≢false}
 use native.Mathlib.Omega.{arith}
-use native.Mathlib.Decide.{ℕ_discrete}
 use borrow.Author.Tests.{le-leb, lt-leb, lt-ltb, leb-true, ltb-true, eq-eqb, ne_eqb, eqb-true}
-use lib.Bits.{bit_or, bit_and, bit_xor, or_add_and, and_le_l, and_le_r, xor_add_and, xor_zero_r, or_lt}
+use lib.Bits.{bit_or, or_add_and, and_le_l, and_le_r, or_lt}
 use lib.Dec.{leb, ltb, eqb}
 use Rattle.theory.proofs.Cases.{split, both, under}
 use Rattle.utf8_scan.specs.Stands.{is_later, low_of, high_of, second, stands}
@@ -34,37 +33,6 @@ among-yes b low high e = let p = both (leb low b) (ltb b high) e in (leb-true lo
 
 pub among_is : (b low high : ℕ) → low ≤ b → b < high → leb low b && ltb b high ≡ true
 among_is b low high l h = rw (le-leb low b l, lt-ltb b high h)
-
--- ---- the parts
-
-pub asked_is : (m b x : ℕ) (t : Bool) → m < 256 → t ≡ is_later b → x ≡ cond t 255 0 → bit_xor m x < 0x80 → is_later b ≡ leb 0x80 m
-asked_is m b x true h e v w =
-    let w' : bit_xor m 255 < 0x80 = rw v at w in
-    sym e ∙ sym (le-leb 0x80 m (omega (arith, xor_add_and m 255, and_le_l m 255)))
-asked_is m b x false h e v w =
-    let w' : m < 0x80 = rw (v, xor_zero_r) at w in
-    sym e ∙ sym (lt-leb 0x80 m w')
-
-pub edge_is : (f l w : Bool) → bit_xor (bit_and (bit_or (cond f 255 0) (cond l 255 0)) (cond w 255 0)) (cond l 255 0) < 0x80 → (f || l) && w ≡ l
-edge_is true true true h = refl
-edge_is false true true h = refl
-edge_is true true false h = absurd (omega arith)
-edge_is false true false h = absurd (omega arith)
-edge_is true false false h = refl
-edge_is false false false h = refl
-edge_is true false true h = absurd (omega arith)
-edge_is false false true h = refl
-
-pub overlong_is : (b x : ℕ) → x ≡ cond (eqb (bit_or b 1) 0xC1) 255 0 → x < 0x80 → 0xC0 ≤ b → 0xC2 ≤ b
-overlong_is b x v w g = go (ℕ_discrete b 0xC0) (ℕ_discrete b 0xC1)
-  where
-    no_such : (k : ℕ) → b ≡ k → bit_or k 1 ≡ 0xC1 → 0xC2 ≤ b
-    no_such k e q = let z : x ≡ 255 = v ∙ simp (ap (λ (n : ℕ). bit_or n 1) e ∙ q) in absurd (omega arith)
-
-    go : Dec (b ≡ 0xC0) → Dec (b ≡ 0xC1) → 0xC2 ≤ b
-    go (yes e) d = no_such 0xC0 e refl
-    go (no a) (yes e) = no_such 0xC1 e refl
-    go (no a) (no d) = omega arith
 
 -- ---- the second byte behind the first and the last lead of a kind
 

@@ -50,14 +50,15 @@ pub(crate) fn stand(b3: u8, b2: u8, b1: u8, b0: u8) -> bool
     }
 }
 
-// The byte that stands k before a place, and 0 where there is none.
+// The byte that stands k before a place, and 0 where there is none. `checked_sub` in place of the test was tried, and is too slow in a
+// short text.
 pub(crate) fn byte_before(text: &[u8], at: usize, k: usize) -> u8
     ensures { result ≡ before text.now at k }
 {
-    at.checked_sub(k)
-        .and_then(|i| text.get(i))
-        .copied()
-        .unwrap_or(0)
+    if at < k {
+        return 0;
+    }
+    text.get(at - k).copied().unwrap_or(0)
 }
 
 // How many bytes before a place wait for more, where those before it stand well?
