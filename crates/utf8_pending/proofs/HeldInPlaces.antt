@@ -2,14 +2,14 @@
 use mathlib.Core.Path.{◌≡◌, refl, sym, ap, ◌∙◌}
 use Prim.Native.Nat.{ℕ, ◌+◌, ◌-◌, min, ◌≤◌, ◌<◌}
 use native.Mathlib.Decide.{dec_le}
-use native.Mathlib.Numerals.{add-one}
-use mathlib.Core.Bool.{true, false, ◌&&◌}
+use mathlib.Core.Bool.{true, false}
 use mathlib.Core.List.{List, [], ◌∷◌, ◌++◌}
 use lib.ListN.{length, get_or, take, drop, length-append, length-take, get_or-append}
-use lib.Seq.{drop-cons, take_all, take_at, take-take, length-take-le, get_or-take, get_or-append-add}
+use lib.Seq.{take_all, take_at, take-take, length-take-le, get_or-take, get_or-append-add}
 use lib.Dec.{leb, eqb}
-use borrow.Author.Tests.{leb-true, le-leb, lt-leb, eq-eqb, ne_eqb}
+use borrow.Author.Tests.{leb-true, le-leb, lt-leb}
 use native.Mathlib.Omega.{arith}
+use Rattle.std.specs.List.{list_all}
 use Rattle.theory.specs.Reader.{Reader, pending}
 use Rattle.theory.proofs.Cases.{both}
 use Rattle.terms.specs.Limits.{most_pending, unheld}
@@ -21,9 +21,6 @@ use Rattle.utf8_pending.specs.Tail.{is_tail, four, placed, seamed}
 module _ {K : Type 0} (look : Reader K) (held : List ℕ) (n : ℕ) where
   pub tail-long : most_pending < n → false ≡ is_tail look held n
   tail-long h = rw (lt-leb n most_pending h)
-
-  pub tail-settled : n ≤ most_pending → pending look (take n held) ≡ false → false ≡ is_tail look held n
-  tail-settled h e = rw (le-leb n most_pending h, e)
 
   pub tail-rest : n ≤ most_pending → pending look (take n held) ≡ true → zeros (drop n held) ≡ is_tail look held n
   tail-rest h e = rw (le-leb n most_pending h, e)
@@ -43,17 +40,11 @@ module _ {K : Type 0} (look : Reader K) (held : List ℕ) (n : ℕ) where
   pub is-tail : Tail → is_tail look held n ≡ true
   is-tail t = sym (tail-rest t.few t.begins) ∙ t.unused
 
--- ---- the unused bytes: those before i are 0
+-- ---- the unused bytes
 
-module _ (bytes : List ℕ) (i : ℕ) (h : i < length bytes) (same : zeros bytes ≡ zeros (drop i bytes)) where
-  zeros-here : zeros bytes ≡ (eqb (get_or bytes i 0) 0 && zeros (drop (i + 1) bytes))
-  zeros-here = same ∙ ap zeros (drop-cons bytes i 0 h) ∙ rw (add-one i)
-
-  pub zeros-next : get_or bytes i 0 ≡ 0 → zeros bytes ≡ zeros (drop (i + 1) bytes)
-  zeros-next e = zeros-here ∙ rw (eq-eqb (get_or bytes i 0) 0 e)
-
-  pub zeros-other : (get_or bytes i 0 ≡ 0 → ⊥) → false ≡ zeros bytes
-  zeros-other e = sym (zeros-here ∙ rw (ne_eqb (get_or bytes i 0) 0 e))
+pub zeros_all : (bytes : List ℕ) → list_all (λ b. eqb b 0) bytes ≡ zeros bytes
+zeros_all [] = refl
+zeros_all (b ∷ bytes) = rw (zeros_all bytes)
 
 -- ---- the first bytes of a text
 

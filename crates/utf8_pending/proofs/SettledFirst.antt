@@ -63,13 +63,6 @@ module _ {K : Type 0} (look : Reader K) where
       record { head = x; tail = xs; text-is = refl; settled_is = s; size_is = ap (total size) s ∙ add-zero (size (reader.first look x xs)) })
       (λ e. absurd (z (rw (settled-open x xs e))))
 
-  -- and it may not be pending
-  pub pending-some : (text : List ℕ) → (total size (first_settled look text) ≡ 0 → ⊥) → pending look text ≡ false
-  pending-some [] z = absurd (z (rw settled-nil))
-  pending-some (x ∷ xs) z = split (look x xs).sure
-      (λ e. rw e)
-      (λ e. absurd (z (rw (settled-open x xs e))))
-
 -- ---- by a short reader: how a text divides behind it
 
 module _ {K : Type 0} {look : Reader K} (S : Short look) where

@@ -16,6 +16,16 @@ pub struct Seam {
     pub size: usize,
 }
 
+impl Seam {
+    // The bytes that there are.
+    pub fn as_slice(&self) -> &[u8]
+        requires { self.now.size ≤ 4 }
+        ensures { result.now ≡ take self.now.size self.now.bytes }
+    {
+        &self.bytes[..self.size]
+    }
+}
+
 // How many bytes of a text are settled by what stands first in it.
 pub fn settled_size(seg: First) -> usize
     ensures { result ≡ settled_size seg }
@@ -32,14 +42,7 @@ pub fn settled_size(seg: First) -> usize
 fn is_zero(bytes: &[u8]) -> bool
     ensures { result ≡ zeros bytes.now }
 {
-    let mut i = 0;
-    while i < bytes.len() {
-        if bytes[i] != 0 {
-            return false;
-        }
-        i += 1;
-    }
-    true
+    bytes.iter().all(|&b| b == 0)
 }
 
 // Are these at most 3 pending bytes, empty or a proper beginning of a well-formed sequence, and the unused ones 0? Mostly there are
@@ -50,32 +53,17 @@ pub fn is_tail(held: [u8; Decoder::PENDING], n: usize) -> bool
     if n == 0 {
         return is_zero(&held);
     }
-    if Decoder::PENDING < n {
-        return false;
+    match held.split_at_checked(n) {
+        Some((tail, unused)) => settled_size(utf8::segment(tail)) == 0 && is_zero(unused),
+        None => false,
     }
-    if settled_size(utf8::segment(&held[..n])) != 0 {
-        return false;
-    }
-    is_zero(&held[n..])
-}
-
-fn least(a: usize, b: usize) -> usize
-    ensures { result ≡ min a b }
-{
-    if a < b {
-        return a;
-    }
-    b
 }
 
 // The byte at a place of a text, and 0 behind its end.
 fn byte_at(text: &[u8], at: usize) -> u8
     ensures { result ≡ get_or text.now at 0 }
 {
-    if at < text.len() {
-        return text[at];
-    }
-    0
+    text.get(at).copied().unwrap_or(0)
 }
 
 // The byte at a place of n pending bytes and a piece behind them, and 0 behind its end.
@@ -94,7 +82,7 @@ fn joined(held: [u8; Decoder::PENDING], n: usize, piece: &[u8], at: usize) -> u8
 pub fn seam_of(held: [u8; Decoder::PENDING], n: usize, piece: &[u8]) -> Seam
     ensures { result ≡ seam_of held n piece.now }
 {
-    let k = least(n, Decoder::PENDING);
+    let k = n.min(Decoder::PENDING);
     Seam {
         bytes: [
             joined(held, k, piece, 0),
@@ -102,7 +90,7 @@ pub fn seam_of(held: [u8; Decoder::PENDING], n: usize, piece: &[u8]) -> Seam
             joined(held, k, piece, 2),
             joined(held, k, piece, 3),
         ],
-        size: k + least(4 - k, piece.len()),
+        size: k + (4 - k).min(piece.len()),
     }
 }
 

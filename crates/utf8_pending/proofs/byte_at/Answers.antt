@@ -1,7 +1,0 @@
--- `byte_at` meets its contract: there is 0 behind the end.
-use mathlib.Core.Path.{sym}
-use lib.ListN.{get_or-eq_default}
-use Rattle.utf8_pending.proofs.byte_at.Goals as goal
-
-pub returns : goal.returns
-returns c = sym (get_or-eq_default c.args.text.now 0 c.if-at-text.false)
