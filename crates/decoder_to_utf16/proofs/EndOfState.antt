@@ -28,7 +28,8 @@ use Rattle.decoder_shared.specs.Inside.Steps.{Fits, struck}
 use Rattle.decoder_shared.proofs.ChecksInOrder.{Admits, admits}
 use Rattle.decoder_shared.proofs.FinishAnswers as finish
 use Rattle.decoder_to_utf16.specs.State.{to_units}
-use Rattle.decoder_to_utf16.specs.Inside.Tallying.{log_of, opening}
+use Rattle.decoder_shared.specs.Inside.Tallying.{log_of}
+use Rattle.decoder.specs.Inside.Steps.{tally_of}
 
 -- U+FFFD, in one place
 abbrev mark : List ℕ
@@ -49,7 +50,7 @@ module _ (d : Decoder) (out list : List ℕ) (g : admit_says to_units d 0 (lengt
   passes = sound_is d granted.tests
 
   -- the list has room for the damage that is pending
-  pub end_fits : Fits d.room d.pending (log_of (opening d) list)
+  pub end_fits : Fits d.room d.pending (log_of (tally_of d) list)
   end_fits =
       let b = passes.numbers in
       record { row = granted.list; sums = omega (arith, b.sum, b.within); counts = b.low }
@@ -65,9 +66,9 @@ module _ (d : Decoder) (out list : List ℕ) (g : admit_says to_units d 0 (lengt
     end_short = finish.finish-short to_units d out list g bytes_division most_pending bytes-hold held-ended mark marks passes.tail.begins some
 
     pub end-done : 1 ≤ length out → (out' : List ℕ) (n : ℕ) → Puts (fitting utf16 (length out) replacement) out out' n
-        → (m : Log) → m ≡ struck d.room d.pending ended (log_of (opening d) list) → (next : Decoder) → next ≡ fresh to_units d.room
+        → (m : Log) → m ≡ struck d.room d.pending ended (log_of (tally_of d) list) → (next : Decoder) → next ≡ fresh to_units d.room
         → Finishes to_units d out list out' m.list (0 ∷ 1 ∷ m.whole ∷ m.damaged ∷ m.count ∷ []) next
     end-done h out' n w m e =
         let o : out' ≡ mark ++ drop 1 out = w.output ∙ rw (le-ltb (length out) 1 h) in
-        let s : m ≡ struck d.room (length (left d)) ended (log_of (opening d) list) = rw long e in
+        let s : m ≡ struck d.room (length (left d)) ended (log_of (tally_of d) list) = rw long e in
         finish.finish-done to_units d out list g bytes_division most_pending bytes-hold held-ended mark marks passes.tail.begins some h out' o m s

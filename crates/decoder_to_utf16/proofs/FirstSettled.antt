@@ -8,7 +8,7 @@ use native.Mathlib.Omega.{arith}
 use Rattle.theory.specs.Reader.{Parts, parts}
 use Rattle.theory.specs.Table.{ended, Kind, whole, damage}
 use Rattle.theory.specs.Tally.{total, size}
-use Rattle.terms.specs.Told.{told_first, first_says, size_of}
+use Rattle.terms.specs.Told.{number_of, told_first, first_says, size_of}
 use Rattle.terms.specs.declared.First.{First}
 use Rattle.terms.specs.declared.First.TheVariants.{Nothing, Whole, Damage, Begun}
 use Rattle.terms.proofs.WalkBySegments.{Seen, seen}
@@ -34,5 +34,5 @@ seen-inside text n s = rw s.text-is (omega (arith, s.long-is, bytes_division.fit
 pub told-inside : (r : First) (text : List ℕ) → told_first r ≡ first_says bytes text → size_of r ≤ length text
 told-inside Nothing text e = omega arith
 told-inside (Whole n) text e = seen-inside text n (seen bytes text n whole true e)
-told-inside (Damage n c) text e = seen-inside text n (seen bytes text n (damage c) true e)
+told-inside (Damage n c) text e = seen-inside text n (seen bytes text n (damage (number_of c)) true e)
 told-inside (Begun n) text e = seen-inside text n (seen bytes text n (damage ended) false e)

@@ -2,5 +2,3 @@
 pub mod State
 -- Feed and finish: the shared promises, of the decoder of bytes into units. Start is the byte decoder's
 pub mod Feeding
--- What private steps promise each other
-pub mod Inside

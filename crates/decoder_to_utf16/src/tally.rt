@@ -1,67 +1,11 @@
 // What is settled of a byte text is tallied: its bytes in whole segments and in damage, its damages, and their entries.
-ghost use Rattle.std.specs.Prelude.{◌≡◌, List, ℕ, ◌+◌, ◌≤◌, length};
-ghost use Rattle.terms.specs.Limits.{limit};
-ghost use Rattle.terms.specs.Told.{size_of};
+ghost use Rattle.std.specs.Prelude.{length};
 ghost use Rattle.utf8.specs.Bytes.{bytes};
-ghost use Rattle.decoder_shared.specs.Inside.Steps.{Fits, Settles, passed, struck, tallied_as};
-ghost use Rattle.decoder_to_utf16.specs.Inside.Tallying.{log_of};
+ghost use Rattle.decoder_shared.specs.Inside.Steps.{Fits, Settles};
+ghost use Rattle.decoder_shared.specs.Inside.Tallying.{log_of};
 
-use terms::First;
+use decoder_shared::{Settled, Tally};
 use utf8_check::Pace;
-
-// What is kept of the segments so far: bytes in whole segments and in damage, and damages.
-#[derive(Clone, Copy)]
-pub(crate) struct Tally {
-    pub whole: usize,
-    pub damaged: usize,
-    pub count: usize,
-}
-
-// What the settled segments of a text made of a tally, and how many bytes they have.
-#[derive(Clone, Copy)]
-pub(crate) struct Settled {
-    pub tally: Tally,
-    pub size: usize,
-}
-
-// So many bytes in whole segments are counted.
-fn pass(n: usize, tally: Tally) -> Tally
-    requires { tally.whole + n ≤ limit }
-    ensures { (list : List ℕ) → log_of result list ≡ passed n (log_of tally list) }
-{
-    Tally {
-        whole: tally.whole + n,
-        damaged: tally.damaged,
-        count: tally.count,
-    }
-}
-
-// A damage of so many bytes is entered with its cause, where the list has room for it, and counted.
-pub(crate) fn strike(n: usize, cause: u32, tally: Tally, room: usize, list: &mut [u32]) -> Tally
-    requires { Fits room n (log_of tally list.old) }
-    ensures { log_of result list.new ≡ struck room n cause (log_of tally list.old) }
-{
-    let start = tally.whole + tally.damaged;
-    decoder_shared::enter(list, room, tally.count, start as u32, n as u32, cause);
-    Tally {
-        whole: tally.whole,
-        damaged: tally.damaged + n,
-        count: tally.count + 1,
-    }
-}
-
-// The segment that stands first in a text is tallied, if it is settled.
-pub(crate) fn count(seg: First, tally: Tally, room: usize, list: &mut [u32]) -> Tally
-    requires { Fits room (size_of seg) (log_of tally list.old) }
-    ensures { log_of result list.new ≡ tallied_as room seg (log_of tally list.old) }
-{
-    match seg {
-        First::Nothing => tally,
-        First::Whole(n) => pass(n, tally),
-        First::Damage(n, cause) => strike(n, cause, tally, room, list),
-        First::Begun(_) => tally,
-    }
-}
 
 // Each settled segment of a text is tallied in its turn: segments and runs of whole ones by turns, a segment first.
 fn walk_on(text: &[u8], tally: Tally, room: usize, list: &mut [u32]) -> Settled
@@ -80,10 +24,10 @@ fn walk_on(text: &[u8], tally: Tally, room: usize, list: &mut [u32]) -> Settled
                 size: text.len() - rest.len(),
             };
         }
-        tally = count(seg, tally, room, list);
+        tally = tally.take(seg, room, list);
         let behind = &rest[size..];
         let run = utf8_check::paced_run(behind, pace);
-        tally = pass(run, tally);
+        tally = tally.pass(run);
         pace = utf8_check::pace_behind(pace, run);
         rest = &behind[run..];
     }
@@ -99,7 +43,7 @@ pub(crate) fn walk(text: &[u8], tally: Tally, room: usize, list: &mut [u32]) -> 
         return Settled { tally, size: 0 };
     }
     let run = utf8_check::whole_run(text);
-    let first = pass(run, tally);
+    let first = tally.pass(run);
     if run == text.len() {
         return Settled {
             tally: first,
@@ -107,9 +51,8 @@ pub(crate) fn walk(text: &[u8], tally: Tally, room: usize, list: &mut [u32]) -> 
         };
     }
     let all = walk_on(&text[run..], first, room, list);
-    let tally = all.tally;
     Settled {
-        tally,
+        tally: all.tally,
         size: run + all.size,
     }
 }

@@ -2,7 +2,7 @@
 use mathlib.Core.Path.{◌≡◌}
 use lib.ListN.{length}
 use Rattle.terms.specs.Limits.{most_pending}
-use Rattle.decoder_to_utf16.specs.Inside.Tallying.{log_of}
+use Rattle.decoder_shared.specs.Inside.Tallying.{log_of}
 use Rattle.decoder_to_utf16.proofs.EndOfState.{end_none, end_fits, end_short, end-done}
 use Rattle.decoder_to_utf16.proofs.end.Goals.{Start}
 use Rattle.decoder_to_utf16.proofs.end.Goals as goal
@@ -14,7 +14,8 @@ three c = c.well_formed.0.1.1.0.1.0.1
 pub returns-then-state-eq0 : goal.returns-then-state-eq0
 returns-then-state-eq0 c =
     let a = c.args in
-    end_none a.state a.out.now a.list.now c.requires c.if-state-eq0.true c.fresh.result c.fresh.ensures
+    rw (c.totals.ensures, c.tally_of.ensures)
+    (end_none a.state a.out.now a.list.now c.requires c.if-state-eq0.true c.fresh.result c.fresh.ensures)
 
 pub returns-then-out-needed : goal.returns-then-out-needed
 returns-then-out-needed c =
@@ -24,10 +25,11 @@ returns-then-out-needed c =
 pub strike-all-requires : goal.strike-all-requires
 strike-all-requires c =
     let a = c.args in
-    rw c.open_tally-first.ensures (end_fits a.state a.out.now a.list.now c.requires)
+    rw c.tally_of-2.ensures (end_fits a.state a.out.now a.list.now c.requires)
 
 pub returns : goal.returns
 returns c =
     let a = c.args in
-    end-done a.state a.out.now a.list.now c.requires (three (goal.at.returns c).Start) c.if-state-eq0.false c.if-out-needed.false _ c.put_units.result c.put_units.ensures
-    (log_of c.strike-all.result c.strike-all.new.list) (rw c.open_tally-first.ensures at c.strike-all.ensures) c.fresh-2.result c.fresh-2.ensures
+    rw c.totals-2.ensures
+    (end-done a.state a.out.now a.list.now c.requires (three (goal.at.returns c).Start) c.if-state-eq0.false c.if-out-needed.false _ c.put_units.result c.put_units.ensures
+    (log_of c.strike-all.result c.strike-all.new.list) (rw c.tally_of-2.ensures at c.strike-all.ensures) c.fresh-2.result c.fresh-2.ensures)

@@ -9,7 +9,7 @@ use Rattle.theory.specs.Tally.{total, size, Log}
 use Rattle.terms.specs.Limits.{most_pending}
 use Rattle.terms.specs.Told.{told_written}
 use Rattle.terms.proofs.WalkBySegments.{part_is}
-use Rattle.terms.specs.declared.Written.TheVariants.{Count}
+use Rattle.std.specs.Prelude.{Ok}
 use Rattle.utf8.specs.Bytes.{bytes}
 use Rattle.utf8_pending.specs.Tail.{first_settled}
 use Rattle.utf8_pending.proofs.SettledFirst.{bytes-short, settled-inside, told-size}
@@ -40,11 +40,11 @@ returns-then-size-state c =
     let at = goal.at.returns-then-size-state c in
     let taken = a.state.taken + length a.piece.now in
     subst (λ (s : State Log). Answers to_units a.state taken s a.out.now a.list.now a.out.now a.list.now
-    (told_written (Count 0)) c.keep.result)
+    (told_written (Ok 0)) c.keep.result)
     (sym (join-still a.state a.piece.now a.list.now a.seam.now c.requires.0 c.requires.1 (three at.Start)
     (omega (arith, size_is at.After-settled_size-size, c.if-size-state.true))))
     (answers-still to_units a.state taken a.seam.now a.out.now a.list.now c.keep.result
-    (rw c.open_tally.ensures at c.keep.ensures))
+    (rw c.tally_of.ensures at c.keep.ensures))
 
 -- the segment reaches over what is pending, and ends in the piece
 over : (c : Else-size-state) → let n = total size (first_settled bytes c.args.seam.now) in

@@ -11,7 +11,7 @@ use Rattle.utf8.specs.Bytes.{bytes}
 use Rattle.utf8_check.proofs.RunDivides.{Run}
 use Rattle.utf8_check.proofs.StandingIsWhole.{run_at}
 use Rattle.decoder_shared.specs.Inside.Steps.{Fits, Settles}
-use Rattle.decoder_to_utf16.specs.Inside.Tallying.{log_of}
+use Rattle.decoder_shared.specs.Inside.Tallying.{log_of}
 use Rattle.decoder_to_utf16.proofs.TallyOfBytes.{empty_settled, Left, left-start, left-fits, left-settles, run_room, run-next}
 use Rattle.decoder_to_utf16.proofs.tally.walk.Goals.{After-pass-first, After-walk_on-all, After-whole_run-run}
 use Rattle.decoder_to_utf16.proofs.tally.walk.Goals as goal

@@ -1,7 +1,7 @@
 -- `tally::walk_on` meets its contract: so much is tallied, and what is settled of the rest is still to be.
 use mathlib.Core.Path.{◌≡◌}
 use lib.ListN.{length}
-use Rattle.decoder_to_utf16.specs.Inside.Tallying.{log_of}
+use Rattle.decoder_shared.specs.Inside.Tallying.{log_of}
 use Rattle.decoder_to_utf16.proofs.TallyOfBytes.{Left}
 use Rattle.decoder_to_utf16.proofs.tally.walk_on.Given as goal
 
