@@ -20,7 +20,8 @@ use Rattle.decoder_shared.specs.Inside.Steps.{Fits, struck}
 use Rattle.decoder_shared.proofs.ChecksInOrder.{Admits, admits}
 use Rattle.decoder_shared.proofs.FinishAnswers.{finish-none, finish-short, finish-done}
 use Rattle.decoder_from_utf16.specs.State.{unit_decoding}
-use Rattle.decoder_from_utf16.specs.Inside.Tallying.{log_of, opening}
+use Rattle.decoder_shared.specs.Inside.Tallying.{log_of}
+use Rattle.decoder_from_utf16.specs.Inside.Tallying.{opening}
 use Rattle.decoder_from_utf16.specs.declared.UnitDecoder.{UnitDecoder}
 use Rattle.decoder_from_utf16.proofs.TestsAsFacts.{Sound, sound_is}
 use Rattle.decoder_from_utf16.proofs.HalfPending.{Half, half_is, left-begins}

@@ -2,22 +2,22 @@
 use mathlib.Core.Path.{◌≡◌, sym, ◌∙◌}
 use Prim.Native.Nat.{ℕ}
 use mathlib.Core.List.{List}
-use Rattle.terms.proofs.ToldBack.{told-written}
-use Rattle.decoder.proofs.ToldBack.{told-opening, told-total}
+use Rattle.terms.proofs.ToldBack.{told-checked, told-written}
+use Rattle.decoder_shared.proofs.ToldBack.{told-total}
 use Rattle.decoder_from_utf16.specs.Feeding.{Starts, Feeds, Finishes}
 use Rattle.decoder_from_utf16.specs.declared.UnitDecoder.{UnitDecoder}
-use Rattle.decoder_from_utf16.specs.declared.Started.{Started}
-use Rattle.decoder_from_utf16.specs.declared.Fed.{Fed}
-use Rattle.decoder_from_utf16.specs.declared.Finished.{Finished}
+use Rattle.decoder_shared.specs.declared.Started.{Started}
+use Rattle.decoder_shared.specs.declared.Fed.{Fed}
+use Rattle.decoder_shared.specs.declared.Finished.{Finished}
 
-pub starts-once : {room : ℕ} {q r : Started} → Starts room q → Starts room r
+pub starts-once : {room : ℕ} {q r : Started UnitDecoder} → Starts room q → Starts room r
     → q ≡ r
 starts-once {q = q} {r = r} f g =
-    let a = told-opening q.answer r.answer (f.answer ∙ sym g.answer) in
+    let a = told-checked q.answer r.answer (f.answer ∙ sym g.answer) in
     let s = f.state ∙ sym g.state in
     λ i. record { answer = a i; state = s i }
 
-pub feeds-once : {d : UnitDecoder} {piece out list out' out'' list' list'' : List ℕ} {q r : Fed}
+pub feeds-once : {d : UnitDecoder} {piece out list out' out'' list' list'' : List ℕ} {q r : Fed UnitDecoder}
     → Feeds d piece out list out' list' q
     → Feeds d piece out list out'' list'' r
     → (q ≡ r) × (out' ≡ out'') × (list' ≡ list'')
@@ -26,7 +26,7 @@ feeds-once {q = q} {r = r} f g =
     let s = f.state ∙ sym g.state in
     (λ i. record { answer = a i; state = s i }, f.output ∙ sym g.output, f.entries ∙ sym g.entries)
 
-pub finishes_once : {d : UnitDecoder} {out list out' out'' list' list'' : List ℕ} {q r : Finished}
+pub finishes_once : {d : UnitDecoder} {out list out' out'' list' list'' : List ℕ} {q r : Finished UnitDecoder}
     → Finishes d out list out' list' q
     → Finishes d out list out'' list'' r
     → (q ≡ r) × (out' ≡ out'') × (list' ≡ list'')

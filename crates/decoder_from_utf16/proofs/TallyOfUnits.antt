@@ -13,7 +13,8 @@ use Rattle.theory.specs.Tally.{total, size, Log}
 use Rattle.theory.proofs.Divisions.{first-size, cut-nil}
 use Rattle.theory.proofs.WholeRuns.{Undamaged}
 use Rattle.terms.specs.Limits.{limit}
-use Rattle.terms.specs.Told.{told_first, first_says}
+use Rattle.terms.specs.Told.{number_of, told_first, first_says}
+use Rattle.terms.specs.declared.Cause.{Cause}
 use Rattle.terms.specs.declared.First.{First}
 use Rattle.terms.specs.declared.First.TheVariants.{Nothing, Whole, Damage, Begun}
 use Rattle.terms.proofs.WalkBySegments.{part_is, Seen, seen}
@@ -86,8 +87,10 @@ module _ (room : ℕ) (text : List ℕ) (l₀ : Log) {at : ℕ} {l : Log} (w : W
     pub next-whole : (n : ℕ) → r ≡ Whole n → Next n (passed n l)
     next-whole n e = let t = told-as (Whole n) e in next_of (Whole n) n whole t (seen units (drop at text) n whole true t)
 
-    pub next-damage : (n c : ℕ) → r ≡ Damage n c → Next n (struck room n c l)
-    next-damage n c e = let t = told-as (Damage n c) e in next_of (Damage n c) n (damage c) t (seen units (drop at text) n (damage c) true t)
+    pub next-damage : (n : ℕ) (c : Cause) → r ≡ Damage n c → Next n (struck room n (number_of c) l)
+    next-damage n c e =
+        let t = told-as (Damage n c) e in
+        next_of (Damage n c) n (damage (number_of c)) t (seen units (drop at text) n (damage (number_of c)) true t)
 
     -- the walk ends where nothing more is settled
     pub end-nothing : r ≡ Nothing → Settles units room text l₀ l at

@@ -1,2 +1,2 @@
--- What is kept of settled segments: a tally and a list as a log, and the state that keeps them
+-- What is kept of settled segments: the tally that a state begins with, and the state that keeps a tally and what is left
 pub mod Tallying

@@ -6,7 +6,7 @@ ghost use Rattle.terms.specs.Writing.{Writes, roomed};
 ghost use Rattle.utf8.specs.Scalar.{utf8};
 ghost use Rattle.utf16.specs.Scalar.{utf16};
 
-use terms::{Refusal, Written};
+use terms::Refusal;
 
 // How many places U+FFFD takes.
 pub(crate) const MARK: usize = 3;
@@ -18,13 +18,13 @@ fn places(text: &[u16]) -> usize
 {
     let mut none = [0u8; 1];
     match convert_from_utf16::repair_to_bytes(text, &mut none[..0]) {
-        Written::Count(_) => 0,
-        Written::Refused(why) => why.first_value(),
+        Ok(_) => 0,
+        Err(why) => why.first_value(),
     }
 }
 
 // Two texts as bytes, one behind the other. The first is short, and mostly there is none; it is written last, when there is room for both.
-pub(crate) fn write_both(head: &[u16], rest: &[u16], out: &mut [u8]) -> Written
+pub(crate) fn write_both(head: &[u16], rest: &[u16], out: &mut [u8]) -> Result<usize, Refusal>
     requires { (length head.now ≤ limit) × (length rest.now ≤ limit) }
     ensures { Writes
         (roomed (length out.old) (converted utf16 utf8 head.now ++ converted utf16 utf8 rest.now))
@@ -38,16 +38,16 @@ pub(crate) fn write_both(head: &[u16], rest: &[u16], out: &mut [u8]) -> Written
     }
     let at = places(head);
     if out.len() < at {
-        return Written::Refused(Refusal::NoRoom {
+        return Err(Refusal::NoRoom {
             needed: at + places(rest),
         });
     }
     match convert_from_utf16::repair_to_bytes(rest, &mut out[at..]) {
-        Written::Count(n) => {
-            convert_from_utf16::repair_to_bytes(head, out);
-            Written::Count(at + n)
+        Ok(n) => {
+            let _ = convert_from_utf16::repair_to_bytes(head, out);
+            Ok(at + n)
         }
-        Written::Refused(why) => Written::Refused(Refusal::NoRoom {
+        Err(why) => Err(Refusal::NoRoom {
             needed: at + why.first_value(),
         }),
     }

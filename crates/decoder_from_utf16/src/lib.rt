@@ -3,22 +3,21 @@
 
 ghost use Rattle.std.specs.Prelude.{◌≡◌, ◌+◌, [], ◌∷◌, ◌++◌, length, take};
 ghost use Rattle.theory.specs.Reader.{parts};
-ghost use Rattle.terms.specs.Told.{size_of, told_written};
+ghost use Rattle.terms.specs.Told.{size_of, told_checked, told_written};
 ghost use Rattle.utf8.specs.Scalar.{utf8};
 ghost use Rattle.utf16.specs.Units.{units};
 ghost use Rattle.decoder_shared.specs.Decoding.{fresh, fed};
-ghost use Rattle.decoder_shared.specs.Checks.{admission, admit_says};
+ghost use Rattle.decoder_shared.specs.Checks.{admit_says};
 ghost use Rattle.decoder_shared.specs.Room.{most_fed};
 ghost use Rattle.decoder_shared.specs.Inside.Steps as steps;
+ghost use Rattle.decoder_shared.specs.Inside.Tallying.{log_of};
 ghost use Rattle.decoder_from_utf16.specs.Tests.{is_tail, balanced, sound};
 ghost use Rattle.decoder_from_utf16.specs.State.{unit_decoding};
 ghost use Rattle.decoder_from_utf16.specs.Feeding.{Starts, Feeds, Finishes};
-ghost use Rattle.decoder_from_utf16.specs.Inside.Tallying.{log_of, opening, keeping};
+ghost use Rattle.decoder_from_utf16.specs.Inside.Tallying.{opening, keeping};
 
-use crate::tally::{Settled, Tally};
-use decoder::{Opening, Total};
-use decoder_shared::Admission;
-use terms::{Decoder, First, Refusal, Written};
+use decoder_shared::{Settled, Tally};
+use terms::{Cause, Decoder, First, Refusal};
 
 mod form;
 mod tally;
@@ -66,26 +65,14 @@ impl UnitDecoder {
     }
 }
 
-// The state of a start, and whether its room was refused.
-#[derive(Clone, Copy)]
-pub struct Started {
-    pub answer: Opening,
-    pub state: UnitDecoder,
-}
+// What the calls give.
+pub type Started = decoder_shared::Started<UnitDecoder>;
 
-// What a feed answers, and the state then.
-#[derive(Clone, Copy)]
-pub struct Fed {
-    pub answer: Written,
-    pub state: UnitDecoder,
-}
+pub type Fed = decoder_shared::Fed<UnitDecoder>;
 
-// What finish answers, and the state then.
-#[derive(Clone, Copy)]
-pub struct Finished {
-    pub answer: Total,
-    pub state: UnitDecoder,
-}
+pub type Finished = decoder_shared::Finished<UnitDecoder>;
+
+pub use decoder_shared::Totals;
 
 // ---- the tests of a state
 
@@ -140,8 +127,8 @@ fn is_sound(state: UnitDecoder) -> bool
 }
 
 // May a state take a call that brings so many units and lends a list of so many numbers?
-fn admit(state: UnitDecoder, more: usize, row: usize) -> Admission
-    ensures { admission result ≡ admit_says unit_decoding state more row }
+fn admit(state: UnitDecoder, more: usize, row: usize) -> Result<(), Refusal>
+    ensures { told_checked result ≡ admit_says unit_decoding state more row }
 {
     decoder_shared::admit(is_sound(state), state.taken, state.room, more, row)
 }
@@ -149,7 +136,7 @@ fn admit(state: UnitDecoder, more: usize, row: usize) -> Admission
 // ---- a piece behind what is pending
 
 // The tally that a state begins with.
-fn open_tally(state: UnitDecoder) -> Tally
+fn tally_of(state: UnitDecoder) -> Tally
     ensures { result ≡ opening state }
 {
     Tally {
@@ -197,7 +184,7 @@ fn tally_both(
     ensures { steps.Settles units room rest.now (steps.tallied_as room seg (log_of (opening state) list.old))
         (log_of result.tally list.new) result.size }
 {
-    let first = crate::tally::count(seg, open_tally(state), room, list);
+    let first = tally_of(state).take(seg, room, list);
     crate::tally::walk(rest, first, room, list)
 }
 
@@ -238,15 +225,15 @@ fn feed_rest(
     let tally = all.tally;
     let end = all.size;
     match crate::form::write_both(head, &rest[..end], out) {
-        Written::Count(n) => {
+        Ok(n) => {
             enter_both(seg, rest, state, tally.count, list);
             Fed {
-                answer: Written::Count(n),
+                answer: Ok(n),
                 state: keep(&rest[end..], tally, taken, state.room),
             }
         }
-        Written::Refused(why) => Fed {
-            answer: Written::Refused(why),
+        Err(why) => Fed {
+            answer: Err(why),
             state,
         },
     }
@@ -267,7 +254,7 @@ fn take(state: UnitDecoder, piece: &[u16], out: &mut [u8], list: &mut [u32]) -> 
     }
     if piece.len() == 0 {
         return Fed {
-            answer: Written::Count(0),
+            answer: Ok(0),
             state,
         };
     }
@@ -287,32 +274,21 @@ fn end(state: UnitDecoder, out: &mut [u8], list: &mut [u32]) -> Finished
 {
     if state.pending == 0 {
         return Finished {
-            answer: Total::Given {
-                written: 0,
-                whole: state.whole,
-                damaged: state.damaged,
-                count: state.count,
-            },
+            answer: Ok(tally_of(state).totals(0)),
             state: UnitDecoder::fresh(state.room),
         };
     }
     let needed = crate::form::MARK;
     if out.len() < needed {
         return Finished {
-            answer: Total::Refused(Refusal::NoRoom { needed }),
+            answer: Err(Refusal::NoRoom { needed }),
             state,
         };
     }
     convert_point::put_bytes(out, 0xFFFD);
-    let first = open_tally(state);
-    let all = crate::tally::strike(state.pending, First::ENDED, first, state.room, list);
+    let all = tally_of(state).strike(state.pending, Cause::Ended, state.room, list);
     Finished {
-        answer: Total::Given {
-            written: needed,
-            whole: all.whole,
-            damaged: all.damaged,
-            count: all.count,
-        },
+        answer: Ok(all.totals(needed)),
         state: UnitDecoder::fresh(state.room),
     }
 }
@@ -325,12 +301,12 @@ pub fn start(room: usize) -> Started
 {
     if UnitDecoder::ROOM < room {
         return Started {
-            answer: Opening::Refused(Refusal::ListRoom),
+            answer: Err(Refusal::ListRoom),
             state: UnitDecoder::fresh(0),
         };
     }
     Started {
-        answer: Opening::Ready,
+        answer: Ok(()),
         state: UnitDecoder::fresh(room),
     }
 }
@@ -339,10 +315,7 @@ pub fn start(room: usize) -> Started
 pub fn most(n: usize) -> usize
     ensures { result ≡ most_fed utf8 n }
 {
-    if UnitDecoder::LIMIT < n {
-        return crate::form::MARK * (UnitDecoder::LIMIT + 1);
-    }
-    crate::form::MARK * (n + 1)
+    crate::form::MARK * (n.min(UnitDecoder::LIMIT) + 1)
 }
 
 // Feeds a piece: everything that is settled is written as bytes, and the damages among it are entered in the list.
@@ -350,9 +323,9 @@ pub fn feed(state: UnitDecoder, piece: &[u16], out: &mut [u8], list: &mut [u32])
     ensures { Feeds state piece.now out.old list.old out.new list.new result }
 {
     match admit(state, piece.len(), list.len()) {
-        Admission::Granted => take(state, piece, out, list),
-        Admission::Refused(why) => Fed {
-            answer: Written::Refused(why),
+        Ok(()) => take(state, piece, out, list),
+        Err(why) => Fed {
+            answer: Err(why),
             state,
         },
     }
@@ -363,9 +336,9 @@ pub fn finish(state: UnitDecoder, out: &mut [u8], list: &mut [u32]) -> Finished
     ensures { Finishes state out.old list.old out.new list.new result }
 {
     match admit(state, 0, list.len()) {
-        Admission::Granted => end(state, out, list),
-        Admission::Refused(why) => Finished {
-            answer: Total::Refused(why),
+        Ok(()) => end(state, out, list),
+        Err(why) => Finished {
+            answer: Err(why),
             state,
         },
     }

@@ -4,7 +4,8 @@ use Rattle.theory.specs.Reader.{parts}
 use Rattle.theory.specs.Tally.{Log}
 use Rattle.utf16.specs.Units.{units}
 use Rattle.decoder_shared.proofs.FeedAnswers.{list_same, list_full}
-use Rattle.decoder_from_utf16.specs.Inside.Tallying.{log_of, opening}
+use Rattle.decoder_shared.specs.Inside.Tallying.{log_of}
+use Rattle.decoder_from_utf16.specs.Inside.Tallying.{opening}
 use Rattle.decoder_from_utf16.proofs.enter_both.Goals as goal
 
 pub returns-then-count-state : goal.returns-then-count-state

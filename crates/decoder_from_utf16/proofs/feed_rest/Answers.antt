@@ -49,16 +49,16 @@ slice_bounds-keep-count c = inside (goal.at.slice_bounds-keep-count c).After-tal
 pub slice_bounds-keep-start : goal.slice_bounds-keep-start
 slice_bounds-keep-start c = let i = inside (goal.at.slice_bounds-keep-start c).After-tally_both-all in search rules
 
-pub returns-in-Count : goal.returns-in-Count
-returns-in-Count c =
+pub returns-in-Ok : goal.returns-in-Ok
+returns-in-Ok c =
     let a = c.args in
     both-granted unit_decoding units_division units-cut (point_causeless utf16 utf8) a.state a.seg a.head.now a.rest.now a.list.now c.requires
     _ c.tally_both-all.result.size c.tally_both-all.ensures
-    a.taken a.out.now _ c.write_both.result c.write_both.ensures _ c.in-Count.is _ c.enter_both.ensures c.keep.result c.keep.ensures
+    a.taken a.out.now _ c.write_both.result c.write_both.ensures _ c.in-Ok.is _ c.enter_both.ensures c.keep.result c.keep.ensures
 
-pub returns-in-Refused : goal.returns-in-Refused
-returns-in-Refused c =
+pub returns-in-Err : goal.returns-in-Err
+returns-in-Err c =
     let a = c.args in
     both-refused unit_decoding units_division units-cut (point_causeless utf16 utf8) a.state a.seg a.head.now a.rest.now a.list.now c.requires
     _ c.tally_both-all.result.size c.tally_both-all.ensures
-    a.taken a.out.now _ c.write_both.result c.write_both.ensures _ c.in-Refused.is
+    a.taken a.out.now _ c.write_both.result c.write_both.ensures _ c.in-Err.is

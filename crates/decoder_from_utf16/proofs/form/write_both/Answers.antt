@@ -42,26 +42,26 @@ returns-then-out-at c =
     let a = c.args in
     both-short (form_of a.head.now) (form_of a.rest.now) a.out.now c.places-at.result c.places-at.ensures c.if-out-at.true _ c.places.ensures
 
-pub overflow_add-result-in-Count : goal.overflow_add-result-in-Count
-overflow_add-result-in-Count c =
+pub overflow_add-result-in-Ok : goal.overflow_add-result-in-Ok
+overflow_add-result-in-Ok c =
     let rest = c.args.rest.now in
-    let n = repair-count rest (form_of rest) _ _ c.repair_to_bytes-2.result c.repair_to_bytes-2.ensures _ c.in-Count.is in
+    let n = repair-count rest (form_of rest) _ _ c.repair_to_bytes-2.result c.repair_to_bytes-2.ensures _ c.in-Ok.is in
     omega (arith, n.0, c.places-at.ensures, small c.args.head.now c.requires.0, small rest c.requires.1)
 
-pub overflow_add-result-in-Refused : goal.overflow_add-result-in-Refused
-overflow_add-result-in-Refused c =
+pub overflow_add-result-in-Err : goal.overflow_add-result-in-Err
+overflow_add-result-in-Err c =
     let rest = c.args.rest.now in
-    let e = needed_is rest (form_of rest) _ c.requires.1 c.in-Refused.why (sym (ap told_written c.in-Refused.is) ∙ c.repair_to_bytes-2.ensures.answer) in
+    let e = needed_is rest (form_of rest) _ c.requires.1 c.in-Err.why (sym (ap told_written c.in-Err.is) ∙ c.repair_to_bytes-2.ensures.answer) in
     omega (arith, c.first_value.ensures, e.0, c.places-at.ensures, small c.args.head.now c.requires.0, small rest c.requires.1)
 
-pub returns-in-Count : goal.returns-in-Count
-returns-in-Count c =
+pub returns-in-Ok : goal.returns-in-Ok
+returns-in-Ok c =
     let a = c.args in
     both-done (form_of a.head.now) (form_of a.rest.now) a.out.now c.places-at.result c.places-at.ensures c.if-out-at.false a.rest.now _ c.requires.1 _
-    (rw c.in-Count.is at c.repair_to_bytes-2.ensures) a.head.now _ c.requires.0 _ c.repair_to_bytes-in-Count.ensures
+    (rw c.in-Ok.is at c.repair_to_bytes-2.ensures) a.head.now _ c.requires.0 _ c.repair_to_bytes-in-Ok.ensures
 
-pub returns-in-Refused : goal.returns-in-Refused
-returns-in-Refused c =
+pub returns-in-Err : goal.returns-in-Err
+returns-in-Err c =
     let a = c.args in
     both-refused (form_of a.head.now) (form_of a.rest.now) a.out.now c.places-at.result c.places-at.ensures c.if-out-at.false a.rest.now _ c.requires.1
-    c.in-Refused.why (rw c.in-Refused.is at c.repair_to_bytes-2.ensures) _ c.first_value.ensures
+    c.in-Err.why (rw c.in-Err.is at c.repair_to_bytes-2.ensures) _ c.first_value.ensures

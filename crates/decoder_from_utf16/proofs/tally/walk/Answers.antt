@@ -5,13 +5,14 @@ use lib.ListN.{length}
 use native.Mathlib.Omega.{arith}
 use Rattle.theory.specs.Tally.{Log}
 use Rattle.terms.specs.Limits.{limit}
+use Rattle.terms.specs.Told.{number_of}
 use Rattle.utf16.proofs.RowsOfUnits.{units_division}
 use Rattle.decoder_shared.specs.Inside.Steps.{passed, struck}
 use Rattle.decoder_shared.proofs.TalliedWalk.{Walked, walked_start}
-use Rattle.decoder_from_utf16.specs.Inside.Tallying.{log_of}
+use Rattle.decoder_shared.specs.Inside.Tallying.{log_of}
 use Rattle.decoder_from_utf16.proofs.TallyOfUnits.{run_room, run-next, Next, next-whole, next-damage, end-nothing, end-begun}
 use borrow.Author.Rules.{rules}
-use Rattle.decoder_from_utf16.proofs.tally.walk.Goals.{After-alone_run-run, After-pass-tally, After-strike-arg-1, In-Whole}
+use Rattle.decoder_from_utf16.proofs.tally.walk.Goals.{After-alone_run-run, After-pass-tally, In-Damage, In-Whole}
 use Rattle.decoder_from_utf16.proofs.tally.walk.Goals as goal
 
 pub loop-n-init : goal.loop-n-init
@@ -102,31 +103,33 @@ loop-n-preserved-in-Whole c =
     (c.loop-n.invariant.0, (whole at.In-Whole (ran at.After-pass-tally)).walks _ (c.pass-tally-in-Whole.ensures c.loop-n.list))
 
 -- damage stands there
-damaged : (c : After-strike-arg-1) {l₀ l : Log}
+damaged : (c : In-Damage) {l₀ l : Log}
     (w : Walked units_division c.args.room c.args.text.now l₀ (c.loop-n.at + c.alone_run-run.result) l)
     → let n = c.in-Damage.n in
-    Next c.args.room c.args.text.now l₀ w n (struck c.args.room n c.in-Damage.cause l)
+    Next c.args.room c.args.text.now l₀ w n (struck c.args.room n (number_of c.in-Damage.cause) l)
 damaged c w = next-damage c.args.room c.args.text.now _ w c.segment.result c.segment.ensures _ _ c.in-Damage.is
 
 pub strike-tally-requires : goal.strike-tally-requires
-strike-tally-requires c = (damaged c (ran (goal.at.strike-tally-requires c).After-pass-tally)).fits
+strike-tally-requires c =
+    let at = goal.at.strike-tally-requires c in
+    (damaged at.In-Damage (ran at.After-pass-tally)).fits
 
 pub overflow_add-at-in-Damage : goal.overflow_add-at-in-Damage
 overflow_add-at-in-Damage c =
     let at = goal.at.overflow_add-at-in-Damage c in
-    let n = damaged at.After-strike-arg-1 (ran at.After-pass-tally) in
+    let n = damaged at.In-Damage (ran at.After-pass-tally) in
     omega (arith, n.inside_is)
 
 pub loop-n-smaller : goal.loop-n-smaller
 loop-n-smaller c =
     let at = goal.at.loop-n-smaller c in
-    let n = damaged at.After-strike-arg-1 (ran at.After-pass-tally) in
+    let n = damaged at.In-Damage (ran at.After-pass-tally) in
     omega (arith, n.some, n.inside_is)
 
 pub loop-n-preserved : goal.loop-n-preserved
 loop-n-preserved c =
     let at = goal.at.loop-n-preserved c in
-    let n = damaged at.After-strike-arg-1 (ran at.After-pass-tally) in
+    let n = damaged at.In-Damage (ran at.After-pass-tally) in
     (c.strike-tally.auto.list ∙ c.loop-n.invariant.0, n.walks _ c.strike-tally.ensures)
 
 pub shape_of-list-in-Begun : goal.shape_of-list-in-Begun

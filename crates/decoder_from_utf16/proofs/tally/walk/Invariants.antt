@@ -4,7 +4,7 @@ use Prim.Native.Nat.{◌-◌}
 use lib.ListN.{length}
 use Rattle.utf16.proofs.RowsOfUnits.{units_division}
 use Rattle.decoder_shared.proofs.TalliedWalk.{Walked}
-use Rattle.decoder_from_utf16.specs.Inside.Tallying.{log_of}
+use Rattle.decoder_shared.specs.Inside.Tallying.{log_of}
 use Rattle.decoder_from_utf16.proofs.tally.walk.Given as goal
 
 abbrev pub invariant-loop-n : goal.invariant-loop-n
