@@ -1,9 +1,12 @@
 -- What a walk over the places of a text has reached, and the refusals before it.
-use Rattle.std.proofs.Common.{◌≡◌, ℕ, ◌+◌, ◌^◌, ◌<◌, ◌≤◌, true, false, ◌&&◌, leb, List, [], ◌∷◌, length, drop, refl, ap, ◌∙◌, arith, length-drop, ltb-false, leb-true}
+use Rattle.std.proofs.Common.{◌≡◌, ℕ, ◌+◌, ◌^◌, ◌<◌, ◌≤◌, true, false, ◌&&◌, eqb, leb, List, [], ◌∷◌, length, get_or, drop, refl, sym, ap, ◌∙◌, true≢false, Ok, arith, length-drop, ltb-false, leb-true}
 use Rattle.theory.specs.Reader.{Segment, cut}
 use Rattle.theory.specs.Tally.{size}
-use Rattle.theory.proofs.Cases.{both}
+use Rattle.theory.proofs.Cases.{both, split}
 use Rattle.terms.specs.Limits.{limit}
+use Rattle.terms.specs.Told.{told_refusal, told_checked}
+use Rattle.terms.specs.declared.Refusal.{Refusal}
+use Rattle.terms.proofs.ToldBack.{no_zero}
 use Rattle.place.specs.Measures.{Tag, units_of, lines_of, ruler, reader}
 use Rattle.place.specs.Walk.{Roomy, fair, over, going}
 use Rattle.place.specs.declared.Place.{Place}
@@ -57,6 +60,25 @@ module _ (from : Place) (text granted : List ℕ) where
 
   pub going_on : over from (length text) ≡ false → fair from ≡ true → going from text granted ≡ granted
   going_on e f = rw (e, f)
+
+  -- what was refused before is refused alike
+  pub going-refused : (r : Refusal) → told_refusal r ≡ going from text (0 ∷ []) → told_refusal r ≡ going from text granted
+  going-refused r e = split (over from (length text))
+      (λ o. let g : told_refusal r ≡ 2 ∷ [] = rw o at e in rw o g)
+      (λ o. split (fair from)
+      (λ f.
+      let g : told_refusal r ≡ 0 ∷ [] = rw (o, f) at e in
+      absurd (true≢false (sym (ap (λ (l : List ℕ). eqb (get_or l 0 0) 0) g) ∙ no_zero r)))
+      (λ f. let g : told_refusal r ≡ 8 ∷ [] = rw (o, f) at e in rw (o, f) g))
+
+-- what was granted passed both tests
+pub going-granted : (from : Place) (text : List ℕ) → told_checked (Ok tt) ≡ going from text (0 ∷ [])
+    → (over from (length text) ≡ false) × (fair from ≡ true)
+going-granted from text e = split (over from (length text))
+    (λ o. let g : 0 ∷ [] ≡ 2 ∷ [] = rw o at e in let z : ◌≡◌ {A = ℕ} 0 2 = cc in absurd (omega arith))
+    (λ o. split (fair from)
+    (λ f. (o, f))
+    (λ f. let g : 0 ∷ [] ≡ 8 ∷ [] = rw (o, f) at e in let z : ◌≡◌ {A = ℕ} 0 8 = cc in absurd (omega arith)))
 
 pub going-roomy : (from : Place) (text : List ℕ) → over from (length text) ≡ false → fair from ≡ true → Roomy from text
 going-roomy from text e f =

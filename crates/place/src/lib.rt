@@ -1,12 +1,13 @@
 // Places: the boundaries of a byte text, with what lies before them in the four measures, and the step from one to the next.
 #![tactic(auto)]
 
-ghost use Rattle.std.specs.Prelude.{◌≡◌};
+ghost use Rattle.std.specs.Prelude.{◌≡◌, [], ◌∷◌};
+ghost use Rattle.terms.specs.Told.{told_checked};
 ghost use Rattle.utf8.specs.Classes.{by_classes};
 ghost use Rattle.place.specs.Measures.{place};
-ghost use Rattle.place.specs.Walk.{number, measure, units_by_size, stepped_by, fair, over};
+ghost use Rattle.place.specs.Walk.{number, measure, units_by_size, stepped_by, fair, over, going};
 
-use terms::Decoder;
+use terms::{Decoder, Refusal};
 
 // Offsets in the four measures: none is passed for another.
 #[derive(Clone, Copy, PartialEq, Eq)]
@@ -92,6 +93,19 @@ impl Place {
         ensures { result ≡ over self more }
     {
         Decoder::LIMIT < self.bytes || Decoder::LIMIT - self.bytes < more
+    }
+
+    // May the text from here on be walked? Refusal 2 where it goes past the limit, then 8 where a count is not fair.
+    pub fn check(self, rest: &[u8]) -> Result<(), Refusal>
+        ensures { told_checked result ≡ going self rest.now (0 ∷ []) }
+    {
+        if self.over(rest.len()) {
+            return Err(Refusal::OverLimit);
+        }
+        if !self.fair() {
+            return Err(Refusal::BadState);
+        }
+        Ok(())
     }
 }
 
