@@ -49,12 +49,7 @@ fn from_start(text: &[u8], to: Offset) -> Result<Place, Refusal>
 pub fn resume(text: &[u8], from: Place, to: Offset) -> Result<Place, Refusal>
     ensures { told_placed result ≡ resume_says (measure to) (number to) from text.now }
 {
-    if from.over(text.len()) {
-        return Err(Refusal::OverLimit);
-    }
-    if !from.fair() {
-        return Err(Refusal::BadState);
-    }
+    from.check(text)?;
     walk(text, from, to, &utf8::CLASSES)
 }
 
