@@ -34,12 +34,7 @@ fn reach(text: &[u8], from: Place, most: Offset, classes: &[u8; 256]) -> Place
 pub fn last(text: &[u8], from: Place, most: Offset) -> Result<Place, Refusal>
     ensures { told_placed result ≡ last_says (measure most) (number most) from text.now }
 {
-    if from.over(text.len()) {
-        return Err(Refusal::OverLimit);
-    }
-    if !from.fair() {
-        return Err(Refusal::BadState);
-    }
+    from.check(text)?;
     Ok(reach(text, from, most, &utf8::CLASSES))
 }
 
