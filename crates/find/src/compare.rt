@@ -7,12 +7,10 @@ pub(crate) fn agree(entry: &[u8], needle: &[u8], place: usize, from: usize, to: 
     requires { (to ≤ length needle.now) × (place + to ≤ length entry.now) }
     ensures { Agrees entry.now needle.now place from to result }
 {
-    let mut i = from;
-    while i < to {
+    for i in from..to {
         if entry[place + i] != needle[i] {
             return i;
         }
-        i += 1;
     }
-    i
+    from.max(to)
 }

@@ -3,6 +3,8 @@ ghost use Rattle.std.specs.Prelude.{◌≡◌, ◌<◌, length};
 ghost use Rattle.find.specs.Inside.Compared.{at};
 ghost use Rattle.find.specs.Inside.Cuts.{rank_of, ranked, Greatest, Cut};
 
+use crate::compare::agree;
+
 // Where a suffix of the needle starts, and its least period.
 #[derive(Clone, Copy)]
 struct Suffix {
@@ -76,7 +78,7 @@ pub(crate) fn cut_of(needle: &[u8]) -> Plan
         p = g.period;
     }
     if l <= p {
-        if l <= crate::compare::agree(needle, needle, p, 0, l) {
+        if l <= agree(needle, needle, p, 0, l) {
             return Plan {
                 cut: l,
                 shift: p,

@@ -2,17 +2,19 @@
 ghost use Rattle.std.specs.Prelude.{◌≡◌};
 ghost use Rattle.find.specs.Match.{first_match};
 
+use crate::compare::agree;
+
 pub(crate) fn search(entry: &[u8], needle: &[u8]) -> Option<usize>
     ensures { result ≡ first_match entry.now needle.now }
 {
     let m = needle.len();
-    let n = entry.len();
-    let mut place = 0;
-    while m <= n - place {
-        if m <= crate::compare::agree(entry, needle, place, 0, m) {
+    if entry.len() < m {
+        return None;
+    }
+    for place in 0..entry.len() - m + 1 {
+        if m <= agree(entry, needle, place, 0, m) {
             return Some(place);
         }
-        place += 1;
     }
     None
 }

@@ -1,5 +1,5 @@
 // Which bytes of a needle are seldom met, by rule of thumb.
-ghost use Rattle.std.specs.Prelude.{ℕ, ◌≤◌, ◌<◌, length};
+ghost use Rattle.std.specs.Prelude.{ℕ, ◌<◌, length};
 ghost use Rattle.find.specs.Inside.Compared.{Rare};
 
 use crate::ahead::Ahead;
@@ -16,41 +16,16 @@ fn letter(b: u8) -> u8 {
 // How often a byte is met before another in log lines of several scripts, by rule of thumb: lead bytes and inner bytes of a script are
 // common, the last bytes of its sequences are not.
 fn commonness(b: u8, next: u8) -> u8 {
-    if b < 0x20 {
-        return 40;
-    }
-    if b == 0x20 {
-        return 255;
-    }
-    if b < 0x30 {
-        return 60;
-    }
-    if b < 0x3A {
-        return 120;
-    }
-    if b < 0x61 {
-        return 70;
-    }
-    if b < 0x80 {
-        return letter(b);
-    }
-    if 0xC0 <= b {
-        return 240;
-    }
-    if 0x80 <= next && next < 0xC0 {
-        return 120;
-    }
-    80
-}
-
-// The byte behind an index, 0 where there is none.
-fn behind(needle: &[u8], k: usize) -> u8
-    requires { k < length needle.now }
-{
-    if k + 1 < needle.len() {
-        needle[k + 1]
-    } else {
-        0
+    match b {
+        0..=0x1F => 40,
+        0x20 => 255,
+        0x21..=0x2F => 60,
+        0x30..=0x39 => 120,
+        0x3A..=0x60 => 70,
+        0x61..=0x7F => letter(b),
+        0x80..=0xBF if 0x80 <= next && next < 0xC0 => 120,
+        0x80..=0xBF => 80,
+        _ => 240,
     }
 }
 
@@ -63,35 +38,32 @@ struct Ranked {
     next: u8,
 }
 
-// One index more; of bytes that are alike the last is kept.
-fn with_index(r: Ranked, k: usize, common: u8) -> Ranked
-    ensures { (n : ℕ) → r.first < n → r.second < n → k < n → (result.first < n) × (result.second < n) }
-{
-    if common <= r.least {
-        return Ranked {
-            first: k,
-            second: r.first,
-            least: common,
-            next: r.least,
-        };
+impl Ranked {
+    // One index more; of bytes that are alike the last is kept.
+    fn with_index(self, k: usize, common: u8) -> Ranked
+        ensures { (n : ℕ) → self.first < n → self.second < n → k < n → (result.first < n) × (result.second < n) }
+    {
+        if common <= self.least {
+            return Ranked {
+                first: k,
+                second: self.first,
+                least: common,
+                next: self.least,
+            };
+        }
+        if common <= self.next {
+            return Ranked {
+                second: k,
+                next: common,
+                ..self
+            };
+        }
+        self
     }
-    if common <= r.next {
-        return Ranked {
-            first: r.first,
-            second: k,
-            least: r.least,
-            next: common,
-        };
-    }
-    r
 }
 
 // How many bytes of a needle are ranked: in a long one two that are seldom met stand soon.
-fn sampled(long: usize) -> usize
-    ensures { result ≤ long }
-{
-    if long < 256 { long } else { 256 }
-}
+const SAMPLED: usize = 256;
 
 // The two rarest bytes at the start of the needle are looked for first; one by itself twice.
 pub(crate) fn rarest_two(needle: &[u8]) -> Ahead
@@ -104,8 +76,9 @@ pub(crate) fn rarest_two(needle: &[u8]) -> Ahead
         least: 255,
         next: 255,
     };
-    for k in 0..sampled(needle.len()) {
-        r = with_index(r, k, commonness(needle[k], behind(needle, k)));
+    for k in 0..needle.len().min(SAMPLED) {
+        let next = needle.get(k + 1).copied().unwrap_or(0);
+        r = r.with_index(k, commonness(needle[k], next));
     }
     Ahead {
         first: r.first,

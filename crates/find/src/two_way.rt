@@ -1,18 +1,13 @@
 // The two-way search of Crochemore and Perrin: to the right of the needle's critical cut first, then to its left.
-ghost use Rattle.std.specs.Prelude.{◌≡◌, ◌<◌, max, length};
+ghost use Rattle.std.specs.Prelude.{◌≡◌, ◌<◌, length};
 ghost use Rattle.find.specs.Match.{first_match};
 ghost use Rattle.find.specs.Inside.Compared.{at, Rare, Passed};
 ghost use Rattle.find.specs.Inside.Cuts.{Cut};
 
 use crate::ahead::Ahead;
-use crate::critical::Plan;
-
-// The later of two indices.
-fn later(a: usize, b: usize) -> usize
-    ensures { result ≡ max a b }
-{
-    if a < b { b } else { a }
-}
+use crate::compare::agree;
+use crate::critical::{Plan, cut_of};
+use crate::rare::rarest_two;
 
 // By a plan, from a place on. The first `seen` bytes of the needle are known to match; where none is, it looks ahead when that is due.
 fn walk(entry: &[u8], needle: &[u8], from: usize, plan: Plan, rare: Ahead) -> Option<usize>
@@ -27,22 +22,22 @@ fn walk(entry: &[u8], needle: &[u8], from: usize, plan: Plan, rare: Ahead) -> Op
     let mut seen = 0;
     let mut ahead = rare;
     while m <= n - place {
-        let at = crate::ahead::next(entry, needle, place, seen, ahead);
+        let at = ahead.next(entry, needle, place, seen);
         if n - at < m {
             return None;
         }
-        let i = crate::compare::agree(entry, needle, at, later(cut, seen), m);
+        let i = agree(entry, needle, at, cut.max(seen), m);
         if i < m {
-            ahead = crate::ahead::behind_look(ahead, seen, at - place, i);
+            ahead = ahead.behind_look(seen, at - place, i);
             place = at + (i - cut + 1);
             seen = 0;
             continue;
         }
-        let j = crate::compare::agree(entry, needle, at, seen, cut);
+        let j = agree(entry, needle, at, seen, cut);
         if cut <= j {
             return Some(at);
         }
-        ahead = crate::ahead::behind_look(ahead, seen, at - place, j);
+        ahead = ahead.behind_look(seen, at - place, j);
         place = at + plan.shift;
         seen = plan.keep;
     }
@@ -59,13 +54,13 @@ pub(crate) fn search(entry: &[u8], needle: &[u8]) -> Option<usize>
     if n < m {
         return None;
     }
-    let rare = crate::rare::rarest_two(needle);
-    let at = crate::ahead::onward(entry, needle, 0, rare);
+    let rare = rarest_two(needle);
+    let at = rare.onward(entry, needle, 0);
     if n - at < m {
         return None;
     }
-    if m <= crate::compare::agree(entry, needle, at, 0, m) {
+    if m <= agree(entry, needle, at, 0, m) {
         return Some(at);
     }
-    walk(entry, needle, at + 1, crate::critical::cut_of(needle), rare)
+    walk(entry, needle, at + 1, cut_of(needle), rare)
 }

@@ -13,9 +13,9 @@ pub loop-k-preserved : goal.loop-k-preserved
 loop-k-preserved c =
     let t = c.args in (
       omega arith,
-      below_more (λ j. at t.first.now j ≡ t.a → at t.second.now j ≡ t.b → c.lower-least.result ≡ 0) c.loop-k.k
-          (λ j h e f. omega (arith, c.loop-k.invariant.1 j h e f, c.lower-least.ensures.0))
-          (λ e f. omega (arith, c.differ.ensures e f, c.lower-least.ensures.1)),
+      below_more (λ j. at t.first.now j ≡ t.a → at t.second.now j ≡ t.b → c.min-least.result ≡ 0) c.loop-k.k
+          (λ j h e f. omega (arith, c.loop-k.invariant.1 j h e f, c.min-least.ensures))
+          (λ e f. omega (arith, c.differ.ensures e f, c.min-least.ensures)),
     )
 
 pub returns : goal.returns

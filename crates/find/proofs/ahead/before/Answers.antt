@@ -13,10 +13,10 @@ pub loop-k-preserved : goal.loop-k-preserved
 loop-k-preserved c =
     let t = c.args in (
       omega arith,
-      omega (arith, c.lower-least.ensures.0, c.loop-k.invariant),
-      below_more (λ j. at t.first.now j ≡ t.a → at t.second.now j ≡ t.b → c.lower-least.result ≤ j) c.loop-k.k
-          (λ j h e f. omega (arith, c.loop-k.invariant.2 j h e f, c.lower-least.ensures.0))
-          (λ e f. omega (arith, c.if_same.ensures (c.differ.ensures e f), c.lower-least.ensures.1)),
+      omega (arith, c.min-least.ensures, c.loop-k.invariant),
+      below_more (λ j. at t.first.now j ≡ t.a → at t.second.now j ≡ t.b → c.min-least.result ≤ j) c.loop-k.k
+          (λ j h e f. omega (arith, c.loop-k.invariant.2 j h e f, c.min-least.ensures))
+          (λ e f. omega (arith, c.if_same.ensures (c.differ-differs.ensures e f), c.min-least.ensures)),
     )
 
 pub returns : goal.returns

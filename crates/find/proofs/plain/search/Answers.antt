@@ -3,6 +3,9 @@ use native.Mathlib.Omega.{arith}
 use Rattle.find.proofs.SearchWalks.{walked_start, walked_end, walked-found, walked_one}
 use Rattle.find.proofs.plain.search.Goals as goal
 
+pub returns-then-entry-m : goal.returns-then-entry-m
+returns-then-entry-m c = walked_end _ _ 0 0 (walked_start _ _) (omega (arith, c.if-entry-m.true))
+
 pub loop-place-init : goal.loop-place-init
 loop-place-init c = walked_start _ _
 
@@ -18,4 +21,4 @@ loop-place-preserved c =
     (c.agree.ensures.other c.if-m-agree.false) (omega arith)
 
 pub returns : goal.returns
-returns c = walked_end _ _ _ _ c.loop-place.invariant c.loop-place-test.false
+returns c = walked_end _ _ _ _ c.loop-place.invariant (omega (arith, c.loop-place-test.false))

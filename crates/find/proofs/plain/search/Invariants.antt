@@ -1,11 +1,6 @@
 -- `search` meets its contract: no place that it has passed has a match.
-use Prim.Native.Nat.{◌-◌}
-use lib.ListN.{length}
 use Rattle.find.proofs.SearchWalks.{Walked}
 use Rattle.find.proofs.plain.search.Given as goal
 
 abbrev pub invariant-loop-place : goal.invariant-loop-place
 invariant-loop-place l = Walked l.entry l.needle l.place 0
-
-abbrev pub decreases-loop-place : goal.decreases-loop-place
-decreases-loop-place l = length l.entry - l.place

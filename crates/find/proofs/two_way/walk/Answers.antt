@@ -4,7 +4,7 @@ use native.Mathlib.Omega.{arith}
 use lib.ListN.{length}
 use Rattle.find.proofs.SearchWalks.{Walked, walked_from, walked_end, walked-over, walked-right, walked_all, walked-left}
 use borrow.Author.Rules.{rules}
-use Rattle.find.proofs.two_way.walk.Goals.{After-later, After-next-at, Else-n-at}
+use Rattle.find.proofs.two_way.walk.Goals.{After-max, After-next-at, Else-n-at}
 use Rattle.find.proofs.two_way.walk.Goals as goal
 
 pub loop-place-init : goal.loop-place-init
@@ -32,10 +32,10 @@ room : (c : Else-n-at)
 room c here = omega (arith, c.if-n-at.false, here.inside)
 
 -- where the comparison starts: all between the cut and there is known
-starts : (c : After-later)
+starts : (c : After-max)
     → let cut = c.args.plan.cut in
-    (cut ≤ c.later.result) × ((j : ℕ) → cut ≤ j → j < c.later.result → j < c.loop-place.seen)
-starts c = (omega (arith, c.later.ensures), λ j u v. omega (arith, c.later.ensures))
+    (cut ≤ c.max.result) × ((j : ℕ) → cut ≤ j → j < c.max.result → j < c.loop-place.seen)
+starts c = (omega (arith, c.max.ensures), λ j u v. omega (arith, c.max.ensures))
 
 pub agree-i-requires : goal.agree-i-requires
 agree-i-requires c =
@@ -46,7 +46,7 @@ pub overflow_sub-at : goal.overflow_sub-at
 overflow_sub-at c = c.next-at.ensures.0.onward
 
 pub overflow_sub-place : goal.overflow_sub-place
-overflow_sub-place c = omega (arith, (starts (goal.at.overflow_sub-place c).After-later).0, c.agree-i.ensures.low)
+overflow_sub-place c = omega (arith, (starts (goal.at.overflow_sub-place c).After-max).0, c.agree-i.ensures.low)
 
 pub overflow_add-place : goal.overflow_add-place
 overflow_add-place c =
@@ -68,11 +68,11 @@ loop-place-preserved-then-i-m c =
     let a = c.args in
     let h = here (goal.at.loop-place-preserved-then-i-m c).After-next-at in
     let r = room (goal.at.loop-place-preserved-then-i-m c).Else-n-at h in
-    let s = starts (goal.at.loop-place-preserved-then-i-m c).After-later in
+    let s = starts (goal.at.loop-place-preserved-then-i-m c).After-max in
     let i = c.loop-place.invariant.1 in
     let n = c.behind_look-ahead.ensures _ i.first i.second c.if-i-m.true in (
       walked-right a.entry.now a.needle.now _ _ h a.plan.cut a.plan.shift a.plan.keep c.requires.cut r
-          c.later.result c.agree-i.result c.agree-i.ensures s.1 (omega (arith, s.0, c.agree-i.ensures.low)) c.if-i-m.true,
+          c.max.result c.agree-i.result c.agree-i.ensures s.1 (omega (arith, s.0, c.agree-i.ensures.low)) c.if-i-m.true,
       record { first = n.0; second = n.1 },
     )
 
@@ -87,9 +87,9 @@ returns-then-cut-j c =
     let a = c.args in
     let h = here (goal.at.returns-then-cut-j c).After-next-at in
     let r = room (goal.at.returns-then-cut-j c).Else-n-at h in
-    let s = starts (goal.at.returns-then-cut-j c).After-later in
+    let s = starts (goal.at.returns-then-cut-j c).After-max in
     walked_all a.entry.now a.needle.now _ _ h a.plan.cut a.plan.shift a.plan.keep c.requires.cut r
-    c.later.result c.agree-i.result c.agree-i.ensures s.1 c.if-i-m.false c.agree-j.result c.agree-j.ensures c.if-cut-j.true
+    c.max.result c.agree-i.result c.agree-i.ensures s.1 c.if-i-m.false c.agree-j.result c.agree-j.ensures c.if-cut-j.true
 
 pub overflow_sub-at-in-loop-place : goal.overflow_sub-at-in-loop-place
 overflow_sub-at-in-loop-place c = c.next-at.ensures.0.onward
@@ -109,11 +109,11 @@ loop-place-preserved c =
     let a = c.args in
     let h = here (goal.at.loop-place-preserved c).After-next-at in
     let r = room (goal.at.loop-place-preserved c).Else-n-at h in
-    let s = starts (goal.at.loop-place-preserved c).After-later in
+    let s = starts (goal.at.loop-place-preserved c).After-max in
     let i = c.loop-place.invariant.1 in
     let n = c.behind_look-ahead-in-loop-place.ensures _ i.first i.second (omega (arith, c.if-cut-j.false, c.requires.cut.inside)) in (
       walked-left a.entry.now a.needle.now _ _ h a.plan.cut a.plan.shift a.plan.keep c.requires.cut r
-          c.later.result c.agree-i.result c.agree-i.ensures s.1 c.if-i-m.false c.agree-j.result c.agree-j.ensures c.if-cut-j.false,
+          c.max.result c.agree-i.result c.agree-i.ensures s.1 c.if-i-m.false c.agree-j.result c.agree-j.ensures c.if-cut-j.false,
       record { first = n.0; second = n.1 },
     )
 

@@ -1,7 +1,7 @@
 -- `onward` meets its contract: places are passed by wide blocks, by narrow ones and by a last one.
 use Rattle.find.proofs.PlacesPassed.{passed-both}
 use borrow.Author.Rules.{rules}
-use Rattle.find.proofs.ahead.onward.Goals as goal
+use Rattle.find.proofs.ahead.Ahead.onward.Goals as goal
 
 pub pass-near-requires : goal.pass-near-requires
 pass-near-requires c = let i = c.pass-wide.ensures.inside in
