@@ -39,10 +39,7 @@ pub fn needed(long: usize) -> usize
 fn number_at(row: &[u32], at: usize) -> usize
     ensures { result ≡ get_or row.now at 0 }
 {
-    if at < row.len() {
-        return row[at] as usize;
-    }
-    0
+    row.get(at).copied().unwrap_or(0) as usize
 }
 
 // Checkpoint k, as the index has it.

@@ -2,6 +2,7 @@
 ghost use Rattle.std.specs.Prelude.{◌≡◌, ◌%◌, ◌^◌};
 ghost use Rattle.index_checkpoint.specs.Marks.{marked_at, marked_once};
 
+use crate::{SPACING, WIDTH};
 use place::Place;
 
 // A number of the index has 32 bits.
@@ -15,10 +16,10 @@ fn entry(n: usize) -> u32
 pub fn mark(row: &mut [u32], k: usize, p: Place)
     ensures { row.new ≡ marked_at row.old k p }
 {
-    if row.len() / crate::WIDTH <= k {
+    if row.len() / WIDTH <= k {
         return;
     }
-    let at = crate::WIDTH * k;
+    let at = WIDTH * k;
     row[at] = entry(p.bytes);
     row[at + 1] = entry(p.units);
     row[at + 2] = entry(p.points);
@@ -30,11 +31,11 @@ pub fn mark(row: &mut [u32], k: usize, p: Place)
 pub fn pass(p: Place, q: Place, row: &mut [u32])
     ensures { row.new ≡ marked_once row.old p q }
 {
-    let k = p.bytes / crate::SPACING + 1;
-    if q.bytes / crate::SPACING < k {
+    let k = p.bytes / SPACING + 1;
+    if q.bytes / SPACING < k {
         return;
     }
-    if q.bytes == crate::SPACING * k {
+    if q.bytes == SPACING * k {
         mark(row, k, q);
         return;
     }
