@@ -1,12 +1,14 @@
 -- The segment that stands first in a byte text, in repaired form: a whole one is itself, a damage U+FFFD.
 use mathlib.Core.Path.{◌≡◌, refl, ap}
 use Prim.Native.Nat.{ℕ, ◌≤◌, ◌<◌}
+use mathlib.Core.Logic.{◌⊎◌, inl, inr}
 use mathlib.Core.List.{List, [], ◌∷◌}
 use lib.ListN.{length, take}
 use lib.Seq.{length-take-le}
 use native.Mathlib.Omega.{arith}
 use Rattle.terms.specs.Form.{replacement, converted, first_point, point_says}
 use Rattle.terms.specs.Told.{told_first, size_of, first_says}
+use Rattle.terms.specs.declared.Cause.{Cause}
 use Rattle.terms.specs.declared.First.{First}
 use Rattle.terms.specs.declared.First.TheVariants.{Nothing, Whole, Damage, Begun}
 use Rattle.terms.proofs.PointTold.{Pointed, of_point, point_read, point-whole, point-damage, point-begun}
@@ -45,6 +47,12 @@ standing text (Whole n) some told =
 standing text (Damage n c) some told = record { point = replacement; says = in-numbers text replacement n (point-damage utf8 bytes_division text (Damage n c) told n c refl); places = refl }
 standing text (Begun n) some told = record { point = replacement; says = in-numbers text replacement n (point-begun utf8 bytes_division text (Begun n) told n refl); places = refl }
 
+-- where it is a damage, one that ends the text too
+pub damaged : (text : List ℕ) (r : First) → told_first r ≡ first_says bytes text
+    → ((n : ℕ) × (c : Cause) × (r ≡ Damage n c)) ⊎ ((n : ℕ) × (r ≡ Begun n)) → of_point replacement (size_of r) ≡ first_point utf8 text
+damaged text r told (inl q) = rw q.2 (point-damage utf8 bytes_division text r told q.0 q.1 q.2)
+damaged text r told (inr q) = rw q.1 (point-begun utf8 bytes_division text r told q.0 q.1)
+
 -- ---- and as it is written
 
 module _ (text : List ℕ) (some : 0 < length text) (n : ℕ) where
@@ -52,16 +60,13 @@ module _ (text : List ℕ) (some : 0 < length text) (n : ℕ) where
     pub whole_room : (out : List ℕ) → length (converted utf8 utf8 text) ≤ length out → length (take n text) ≤ length out
     whole_room out h = rw (again text n p) at (point-room utf8-faithful utf8 text some n (number (take n text)) (in-numbers text _ n p.says) out h)
 
-    pub whole-passes : (out out' : List ℕ) (passed put : ℕ) → (passed ≡ length (take n text)) × Puts (take n text) out out' put
-        → PassesTo utf8 utf8 text out out' passed put
-    whole-passes out out' passed put q =
-        let e : passed ≡ n = omega (arith, q.0, length-take-le n text p.inside) in
-        rw e (point-passes utf8-faithful utf8 text some n (number (take n text)) (in-numbers text _ n p.says) out out' put (rw (again text n p) q.1))
+    pub whole-passes : (out out' : List ℕ) (put : ℕ) → Puts (take n text) out out' put → PassesTo utf8 utf8 text out out' n put
+    whole-passes out out' put q =
+        point-passes utf8-faithful utf8 text some n (number (take n text)) (in-numbers text _ n p.says) out out' put (rw (again text n p) q)
 
   module _ (says : of_point replacement n ≡ first_point utf8 text) where
     pub damage-room : (out : List ℕ) → length (converted utf8 utf8 text) ≤ length out → 3 ≤ length out
     damage-room = point-room utf8-faithful utf8 text some n replacement (in-numbers text replacement n says)
 
-    pub damage-passes : (out out' : List ℕ) (passed put : ℕ) → (passed ≡ n) × Puts (sequence replacement) out out' put
-        → PassesTo utf8 utf8 text out out' passed put
-    damage-passes out out' passed put q = rw q.0 (point-passes utf8-faithful utf8 text some n replacement (in-numbers text replacement n says) out out' put q.1)
+    pub damage-passes : (out out' : List ℕ) (put : ℕ) → Puts (sequence replacement) out out' put → PassesTo utf8 utf8 text out out' n put
+    damage-passes = point-passes utf8-faithful utf8 text some n replacement (in-numbers text replacement n says)

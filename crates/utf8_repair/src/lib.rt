@@ -4,9 +4,9 @@
 ghost use Rattle.std.specs.Prelude.{◌≡◌, ◌++◌, ◌≤◌, ◌<◌, length, take, drop};
 ghost use Rattle.terms.specs.Limits.{limit};
 ghost use Rattle.terms.specs.Form.{replacement, repaired, converted};
+ghost use Rattle.terms.specs.Told.{told_first, first_says, size_of};
 ghost use Rattle.terms.specs.Writing.{Writes, roomed, repair_says};
 ghost use Rattle.utf8.specs.Bytes.{bytes};
-ghost use Rattle.utf8.specs.Classes.{by_classes};
 ghost use Rattle.utf8.specs.Scalar.{sequence, utf8};
 ghost use Rattle.utf8_check.specs.Run.{whole_run};
 ghost use Rattle.convert_point.specs.Puts.{Puts};
@@ -24,8 +24,7 @@ fn places(seg: First) -> usize
     match seg {
         First::Nothing => 0,
         First::Whole(n) => n,
-        First::Damage(_, _) => 3,
-        First::Begun(_) => 3,
+        First::Damage(_, _) | First::Begun(_) => 3,
     }
 }
 
@@ -57,49 +56,37 @@ fn need_bytes(text: &[u8], run: usize) -> usize
     run + need_on(&text[run..])
 }
 
-// How far one segment led: so many bytes are passed over, and so many written.
-#[derive(Clone, Copy)]
-struct Mended {
-    pub passed: usize,
-    pub put: usize,
-}
-
-// The first segment, repaired.
-fn mend(text: &[u8], classes: &[u8; 256], out: &mut [u8]) -> Mended
+// The first segment, repaired: a whole one stays as it is, and U+FFFD stands for a damage. How many bytes it takes then.
+fn mend(text: &[u8], seg: First, out: &mut [u8]) -> usize
     requires text_nonzero { (0 < length text.now) × (length (converted utf8 utf8 text.now) ≤ length out.old) }
-    requires classes_value { by_classes classes.now ≡ bytes }
-    ensures { PassesTo utf8 utf8 text.now out.old out.new result.passed result.put }
+    requires told { told_first seg ≡ first_says bytes text.now }
+    ensures { PassesTo utf8 utf8 text.now out.old out.new (size_of seg) result }
 {
-    match utf8::segment_by(text, classes) {
-        First::Nothing => Mended { passed: 0, put: 0 },
+    match seg {
+        First::Nothing => 0,
         First::Whole(n) => pass(&text[..n], out),
-        First::Damage(n, _) => mark(n, out),
-        First::Begun(n) => mark(n, out),
+        First::Damage(_, _) | First::Begun(_) => mark(out),
     }
 }
 
-// A whole segment stays as it is.
-fn pass(seg: &[u8], out: &mut [u8]) -> Mended
+// The bytes of a whole segment.
+fn pass(seg: &[u8], out: &mut [u8]) -> usize
     requires { length seg.now ≤ length out.old }
-    ensures { (result.passed ≡ length seg.now) × Puts seg.now out.old out.new result.put }
+    ensures { Puts seg.now out.old out.new result }
 {
-    let mut i: usize = 0;
-    while i < seg.len() {
-        out[i] = seg[i];
-        i += 1;
-    }
-    Mended { passed: i, put: i }
+    out[..seg.len()].copy_from_slice(seg);
+    seg.len()
 }
 
-// U+FFFD for a damage of so many bytes.
-fn mark(n: usize, out: &mut [u8]) -> Mended
+// U+FFFD for a damage.
+fn mark(out: &mut [u8]) -> usize
     requires { 3 ≤ length out.old }
-    ensures { (result.passed ≡ n) × Puts (sequence replacement) out.old out.new result.put }
+    ensures { Puts (sequence replacement) out.old out.new result }
 {
     out[0] = 0xEF;
     out[1] = 0xBF;
     out[2] = 0xBD;
-    Mended { passed: n, put: 3 }
+    3
 }
 
 // The bytes of a run. Where damage is dense most runs are none, and not worth the call.
@@ -122,10 +109,10 @@ fn write_on(text: &[u8], out: &mut [u8]) -> usize
     let mut done: usize = 0;
     let mut pace = Pace::START;
     while 0 < rest.len() {
-        let m = mend(rest, &utf8::CLASSES, &mut out[done..]);
-        let from = m.passed;
-        let to = done + m.put;
-        let behind = &rest[from..];
+        let seg = utf8::segment_by(rest, &utf8::CLASSES);
+        let size = seg.size();
+        let to = done + mend(rest, seg, &mut out[done..]);
+        let behind = &rest[size..];
         let run = utf8_check::paced_run(behind, pace);
         copy_run(&behind[..run], &mut out[to..]);
         done = to + run;
