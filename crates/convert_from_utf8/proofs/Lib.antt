@@ -1,7 +1,5 @@
 -- Runs of whole segments in the walks that count and write units: what is counted and spelled at once
 pub mod RunsSpelled
--- What the strict check accepts has no damage
-pub mod AcceptedIsWhole
 -- What a text spells: by the kind of its first byte, and over its ascii beginning
 pub mod SpelledByKind
 -- THE LAW OF SPELLING: where all segments of a byte text are whole, it spells its own units

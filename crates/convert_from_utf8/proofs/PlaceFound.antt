@@ -1,36 +1,52 @@
 -- The place of a number in a table, searched from a place on; in a page it is any at which the number stands.
-use mathlib.Core.Path.{◌≡◌, sym, ap, ◌∙◌}
-use Prim.Native.Nat.{ℕ, suc, ◌+◌, ◌≤◌, ◌<◌}
-use native.Mathlib.Nat.{add-zero}
-use native.Mathlib.Numerals.{add-one}
-use mathlib.Core.List.{List, ◌∷◌}
-use lib.ListN.{length, get_or, drop, length-drop, drop_of_length-le}
-use lib.Seq.{drop-cons, get_or-drop}
+use mathlib.Core.Path.{◌≡◌, refl, sym, ap, ◌∙◌}
+use Prim.Native.Nat.{ℕ, ◌+◌, ◌<◌}
+use mathlib.Core.Bool.{cond}
+use mathlib.Core.Bool.{true, false}
+use mathlib.Core.List.{List}
+use lib.ListN.{length, get_or, drop, length-drop}
+use lib.Seq.{get_or-drop}
 use lib.Dec.{eqb}
-use borrow.Author.Tests.{eqb-true, eq-eqb}
+use borrow.Author.Tests.{ltb-true, lt-ltb}
 use native.Mathlib.Omega.{arith}
 use Rattle.theory.proofs.Cases.{split}
-use Rattle.page.specs.Paged.{place_of, IsPage}
+use Rattle.std.specs.Prelude.{Option, Some, None}
+use Rattle.std.specs.List.{position_from, position_or_len}
+use Rattle.std.proofs.lemmas.List.Recursion.{is_position_or_len}
+use Rattle.std.proofs.lemmas.Iterator.Adapters.{position_from-zero}
+use Rattle.page.specs.Paged.{place_of, has, IsPage}
+use Rattle.convert_from_utf8.specs.Inside.Held.{place_in}
 use Rattle.page.proofs.PlaceInTable.{stands, only-place}
 
+module _ (c : ℕ) where
+  -- ---- the search ends at the place
+
+  place-first : (table : List ℕ) → place_of c table ≡ position_or_len (λ n. eqb n c) table
+  place-first = is_position_or_len (place_of c) (λ n. eqb n c) refl
+      (λ x xs. ap (λ (k : ℕ). cond (eqb x c) 0 k) (omega arith))
+
+  pub position-is : (table : List ℕ) → position_from (λ n. eqb n c) 0 table ≡ place_in c table
+  position-is table = sym (position_from-zero (λ n. eqb n c) table) ∙ rw (← place-first table)
+
+  -- and there the number stands
+  pub in-place : (table : List ℕ) (n : ℕ) → Some n ≡ place_in c table → (n < length table) × (n ≡ place_of c table)
+  in-place table n e = split (has table c)
+      (λ t. let i : n ≡ place_of c table = cc (rw t at e) in (rw (← i) at (ltb-true (place_of c table) (length table) t), i))
+      (λ t. absurd (some_none (rw t at e)))
+    where
+      some_none : ◌≡◌ {A = Option ℕ} (Some n) None → ⊥
+      some_none e = cc
+
+  pub has-place : (table : List ℕ) (n : ℕ) → Some n ≡ place_in c table → has table c ≡ true
+  has-place table n e = lt-ltb (place_of c table) (length table) (omega (arith, (in-place table n e).0, (in-place table n e).1))
+
+  pub lacks-place : (table : List ℕ) → None ≡ place_in c table → has table c ≡ false
+  lacks-place table e = split (has table c) (λ t. absurd (none_some (rw t at e))) (λ t. t)
+    where
+      none_some : ◌≡◌ {A = Option ℕ} None (Some (place_of c table)) → ⊥
+      none_some e = cc
+
 module _ (c : ℕ) (table : List ℕ) where
-  -- ---- the search has come to a place: the number stands there, or does not, or the table ends
-
-  module _ (at : ℕ) (h : at < length table) where
-    here : drop at table ≡ get_or table at 0 ∷ drop (suc at) table
-    here = drop-cons table at 0 h
-
-    pub search-found : get_or table at 0 ≡ c → at ≡ at + place_of c (drop at table)
-    search-found e = rw (here, eq-eqb (get_or table at 0) c e) (sym (add-zero at))
-
-    pub search-next : (get_or table at 0 ≡ c → ⊥) → at + place_of c (drop at table) ≡ at + 1 + place_of c (drop (at + 1) table)
-    search-next n = split (eqb (get_or table at 0) c)
-        (λ t. absurd (n (eqb-true (get_or table at 0) c t)))
-        (λ t. rw (here, t, add-one at) (omega arith))
-
-  pub search-end : (at : ℕ) → length table ≤ at → at ≡ at + place_of c (drop at table)
-  search-end at h = rw (drop_of_length-le table h) (sym (add-zero at))
-
   -- ---- in a page
 
   module _ (p : IsPage table) where
@@ -42,3 +58,13 @@ module _ (c : ℕ) (table : List ℕ) where
         let k : ℕ = place_of c (drop at table) in
         let s : get_or (drop at table) k 0 ≡ c = stands c (drop at table) (omega (arith, h, length-drop at table, p.long)) in
         found-any (at + k) h (sym (get_or-drop at table k 0) ∙ s)
+
+    pub found-in : (at : ℕ) → at < 256 → get_or table at 0 ≡ c → Some at ≡ place_in c table
+    found-in at h e = rw (← found-any at h e, lt-ltb at (length table) (omega (arith, p.long)))
+
+    pub found-behind : (at n : ℕ) → at < 256 → Some n ≡ place_in c (drop at table) → (at + n < 256) × (Some (at + n) ≡ place_in c table)
+    found-behind at n l e =
+        let i = in-place c (drop at table) n e in
+        let k : at + n < 256 = omega (arith, i.0, length-drop at table, p.long) in
+        let j : at + n ≡ place_of c table = rw i.1 (found_from at (rw (← i.1) k)) in
+        (k, rw (← j, lt-ltb (at + n) (length table) (omega (arith, p.long))))

@@ -10,6 +10,8 @@ use native.Mathlib.Omega.{arith}
 use Rattle.theory.proofs.Cases.{add_swap}
 use Rattle.terms.proofs.WalkWrites.{Passed}
 use Rattle.ascii.specs.Ascii.{Ascii}
+use Rattle.std.specs.Prelude.{Some}
+use Rattle.convert_from_utf8.specs.declared.spelling.Sequence.{Sequence}
 use Rattle.convert_from_utf8.specs.Inside.Spell.{wants, two, three, first_half, second_half, units, spelled_from, spelled}
 use Rattle.convert_from_utf8.specs.Inside.Stride.{Short}
 
@@ -116,11 +118,9 @@ module _ (text : List ℕ) where
         let k = one-is (get_or text at 0) (byte 1) (byte 2) (byte 3) m in
         rw (k.0, k.1) at (passed-next (rw k.0 (omega arith)))
 
-    pub passed-short : (unit size : ℕ) → Short (get_or text at 0) (byte 1) unit size → 0 < size → at + 2 ≤ length text
-        → Passed left (length text) at size (unit ∷ [])
-    passed-short unit size s z f =
-        let e : suc (wants (get_or text at 0)) ≡ size = sym (s.whole z) in
-        rw (e, s.same z (byte 2) (byte 3)) at (passed-next (rw e (omega (arith, s.few))))
+    pub passed-short : (s : Sequence) → Short (get_or text at 0) (byte 1) (Some s) → at + 2 ≤ length text
+        → Passed left (length text) at s.size (s.unit ∷ [])
+    passed-short s h f = rw (← h.1, h.2 (byte 2) (byte 3)) at (passed-next (rw (← h.1) (omega (arith, h.0))))
 
     pub passed-three : 0xE0 ≤ get_or text at 0 → get_or text at 0 < 0xF0 → at + 3 ≤ length text
         → Passed left (length text) at 3 (three (get_or text at 0) (byte 1) (byte 2) ∷ [])

@@ -1,5 +1,6 @@
 // A byte text whose segments are known to be whole in an old page: whether the page has its code points, and where they stand in it.
-ghost use Rattle.std.specs.Prelude.{◌≡◌, [], ◌+◌, ◌≤◌, ◌<◌, length, drop};
+ghost use Rattle.std.specs.Prelude.{◌≡◌, ◌==◌, [], ◌≤◌, ◌<◌, length};
+ghost use Rattle.std.specs.List.{position_from};
 ghost use Rattle.theory.specs.Reader.{cut};
 ghost use Rattle.terms.specs.Form.{converted};
 ghost use Rattle.terms.specs.Strict.{damages};
@@ -7,63 +8,47 @@ ghost use Rattle.terms.specs.Writing.{Writes, roomed};
 ghost use Rattle.utf8.specs.Bytes.{bytes};
 ghost use Rattle.utf8.specs.Scalar.{utf8};
 ghost use Rattle.page.specs.Tables.{table_of};
-ghost use Rattle.page.specs.Paged.{place_of, paged, IsPage, Keeps};
+ghost use Rattle.page.specs.Paged.{paged, IsPage, Keeps};
 ghost use Rattle.page.specs.Lacking.{lacking, held_up_to, held_by};
 ghost use Rattle.convert_point.specs.Puts.{Puts};
 ghost use Rattle.ascii.specs.Ascii.{Ascii};
-ghost use Rattle.convert_from_utf8.specs.Inside.Held.{Fits, Held, Places};
+ghost use Rattle.convert_from_utf8.specs.Inside.Held.{place_in, Fits, Held, Places};
 
 use crate::spelling::Reach;
 use page::Page;
 use terms::Refusal;
 
-// A number of a page as a code point.
-fn wide(n: u16) -> u32
-    ensures { result ≡ n }
+// The first place at which a number stands, if there is one.
+fn search(numbers: &[u16], c: u32) -> Option<usize>
+    ensures { result ≡ position_from (λ n. n == c) 0 numbers.now }
 {
-    n as u32
-}
-
-// The first place from one on at which a number stands; 256 where it stands nowhere.
-fn search(numbers: &[u16; 256], from: usize, c: u32) -> usize
-    requires { (length numbers.now ≡ 256) × (from ≤ 256) }
-    ensures { result ≡ from + place_of c (drop from numbers.now) }
-{
-    let mut place = from;
-    while place < 256 {
-        if wide(numbers[place]) == c {
-            return place;
-        }
-        place += 1;
-    }
-    place
+    numbers.iter().position(|n| *n as u32 == c)
 }
 
 // The place of a number in a page, where it stands nowhere twice: mostly that of its low byte, 0xA0 behind for Cyrillic, or a high one.
-fn place_of(numbers: &[u16; 256], c: u32) -> usize
+fn place_of(numbers: &[u16; 256], c: u32) -> Option<usize>
     requires { IsPage numbers.now }
-    ensures { result ≡ place_of c numbers.now }
+    ensures { result ≡ place_in c numbers.now }
 {
     let low = (c % 256) as usize;
-    if wide(numbers[low]) == c {
-        return low;
+    if numbers[low] as u32 == c {
+        return Some(low);
     }
     let far = (low + 0xA0) % 256;
-    if wide(numbers[far]) == c {
-        return far;
+    if numbers[far] as u32 == c {
+        return Some(far);
     }
-    let high = search(numbers, 0xA0, c);
-    if high < 256 {
-        return high;
+    if let Some(n) = search(&numbers[0xA0..], c) {
+        return Some(0xA0 + n);
     }
-    search(numbers, 0, c)
+    search(numbers, c)
 }
 
 // So many bytes at the start are below 0x80, by whole blocks; so few that what was tested is still near when it is copied.
 fn near_run(text: &[u8]) -> usize
     ensures { (result ≤ length text.now) × Ascii text.now result }
 {
-    let near = crate::spelling::lower(text.len(), 4096);
+    let near = text.len().min(4096);
     ascii::run(&text[..near])
 }
 
@@ -73,13 +58,13 @@ fn held_some(text: &[u8], numbers: &[u16; 256]) -> usize
     requires text_nonzero { (0 < length text.now) × (damages bytes text.now ≡ []) }
     ensures { Held numbers.now text.now result }
 {
-    let stop = crate::spelling::lower(text.len(), 64);
+    let stop = text.len().min(64);
     let mut passed: usize = 0;
     while passed < stop {
         let p = crate::points::first_point(&text[passed..]);
-        if 256 <= place_of(numbers, p.number) {
+        let Some(_) = place_of(numbers, p.number) else {
             return passed;
-        }
+        };
         let size = p.size;
         passed += size;
     }
@@ -123,12 +108,13 @@ fn put_some(text: &[u8], numbers: &[u16; 256], out: &mut [u8]) -> Reach
     requires text_in_bounds { length (converted utf8 (paged numbers.now) text.now) ≤ length out.old }
     ensures { Places numbers.now text.now out.old out.new result.passed result.put }
 {
-    let stop = crate::spelling::lower(text.len(), 64);
+    let stop = text.len().min(64);
     let mut at: usize = 0;
     let mut put: usize = 0;
     while at < stop {
         let p = crate::points::first_point(&text[at..]);
-        out[put] = place_of(numbers, p.number) as u8;
+        let place = place_of(numbers, p.number).unwrap();
+        out[put] = place as u8;
         put += 1;
         at += p.size;
     }

@@ -1,5 +1,6 @@
 // The code points of a byte text whose segments are known to be whole: a first byte alone says what stands there.
-ghost use Rattle.std.specs.Prelude.{◌≡◌, [], ◌∷◌, ◌++◌, ◌+◌, ◌*◌, ◌%◌, ◌≤◌, ◌<◌, length, drop};
+ghost use Rattle.std.specs.Prelude.{◌≡◌, [], ◌∷◌, ◌++◌, ◌+◌, ◌*◌, ◌%◌, ◌≤◌, ◌<◌, length, drop, ltb};
+ghost use Rattle.std.specs.List.{prefix_len};
 ghost use Rattle.ascii.specs.Ascii.{Ascii};
 ghost use Rattle.terms.specs.Form.{converted, point_says};
 ghost use Rattle.terms.specs.Strict.{damages};
@@ -13,19 +14,12 @@ ghost use Rattle.convert_from_utf8.specs.Inside.Step.{Steps};
 use crate::spelling::Reach;
 use terms::{Point, Refusal};
 
-// A byte as a code point of the same number.
-fn wide(b: u8) -> u32
-    ensures { result ≡ b }
-{
-    b as u32
-}
-
 // Six bits more, those of a later byte.
 fn with_later(c: u32, b: u8) -> u32
     requires { c < 0x10000 }
     ensures { result ≡ c * 0x40 + b % 0x40 }
 {
-    c * 0x40 + wide(b) % 0x40
+    c * 0x40 + (b as u32) % 0x40
 }
 
 // The code point that stands first.
@@ -36,29 +30,36 @@ pub(crate) fn first_point(text: &[u8]) -> Point
     let a = text[0];
     if a < 0x80 {
         return Point {
-            number: wide(a) % 0x80,
+            number: (a as u32) % 0x80,
             size: 1,
         };
     }
     if a < 0xE0 {
         return Point {
-            number: with_later(wide(a) % 0x20, text[1]),
+            number: with_later((a as u32) % 0x20, text[1]),
             size: 2,
         };
     }
     if a < 0xF0 {
         return Point {
-            number: with_later(with_later(wide(a) % 0x10, text[1]), text[2]),
+            number: with_later(with_later((a as u32) % 0x10, text[1]), text[2]),
             size: 3,
         };
     }
     Point {
         number: with_later(
-            with_later(with_later(wide(a) % 0x08, text[1]), text[2]),
+            with_later(with_later((a as u32) % 0x08, text[1]), text[2]),
             text[3],
         ),
         size: 4,
     }
+}
+
+// So many bytes at the start are below 0x80.
+fn leading(block: &[u8]) -> usize
+    ensures { result ≡ prefix_len (λ b. ltb b 0x80) block.now }
+{
+    block.iter().take_while(|b| **b < 0x80).count()
 }
 
 // So many bytes at the start are below 0x80: at most sixteen, and none are looked for where there are fewer.
@@ -68,12 +69,7 @@ fn ascii_front(text: &[u8]) -> usize
     if text.len() < 16 {
         return 0;
     }
-    for k in 0..16 {
-        if 0x80 <= text[k] {
-            return k;
-        }
-    }
-    16
+    leading(&text[..16])
 }
 
 // Bytes as code points, at the start of the output.
@@ -81,10 +77,8 @@ fn widen(text: &[u8], out: &mut [u32])
     requires { length text.now ≤ length out.old }
     ensures { out.new ≡ text.now ++ drop (length text.now) out.old }
 {
-    let mut i: usize = 0;
-    while i < text.len() {
-        out[i] = wide(text[i]);
-        i += 1;
+    for (i, &b) in text.iter().enumerate() {
+        out[i] = b as u32;
     }
 }
 

@@ -20,60 +20,39 @@ pub(crate) struct Reach {
     pub put: usize,
 }
 
-// A sequence that spells one unit, and how many bytes it has: 0 where none is taken.
+// A sequence that spells one unit, and how many bytes it has.
 #[derive(Clone, Copy)]
 pub(crate) struct Sequence {
     pub unit: u16,
     pub size: usize,
 }
 
-// A byte as a unit of the same number.
-fn wide(b: u8) -> u16
-    ensures { result ≡ b }
-{
-    b as u16
-}
-
 // The unit of a sequence of two bytes.
 fn of_two(a: u8, b: u8) -> u16
     ensures { result ≡ two a b }
 {
-    wide(a) % 0x20 * 0x40 + wide(b) % 0x40
+    (a as u16) % 0x20 * 0x40 + (b as u16) % 0x40
 }
 
 // The unit of a sequence of three bytes.
 fn of_three(a: u8, b: u8, c: u8) -> u16
     ensures { result ≡ three a b c }
 {
-    wide(a) % 0x10 * 0x1000 + wide(b) % 0x40 * 0x40 + wide(c) % 0x40
+    (a as u16) % 0x10 * 0x1000 + (b as u16) % 0x40 * 0x40 + (c as u16) % 0x40
 }
 
 // The first half of the pair of a sequence that begins with these three of its four bytes.
 fn first_half(a: u8, b: u8, c: u8) -> u16
     ensures { result ≡ first_half a b c }
 {
-    0xD7C0 + wide(a) % 0x08 * 0x100 + wide(b) % 0x40 * 0x04 + wide(c) % 0x40 / 0x10
+    0xD7C0 + (a as u16) % 0x08 * 0x100 + (b as u16) % 0x40 * 0x04 + (c as u16) % 0x40 / 0x10
 }
 
 // The second half of the pair of a sequence that ends with these two of its four bytes.
 fn second_half(c: u8, d: u8) -> u16
     ensures { result ≡ second_half c d }
 {
-    0xDC00 + wide(c) % 0x10 * 0x40 + wide(d) % 0x40
-}
-
-// The lower of two numbers.
-pub(crate) fn lower(a: usize, b: usize) -> usize
-    ensures { result ≡ min a b }
-{
-    if a < b { a } else { b }
-}
-
-// At least both of them.
-fn larger(a: u8, b: u8) -> u8
-    ensures { (a ≤ result) × (b ≤ result) }
-{
-    if a < b { b } else { a }
+    0xDC00 + (c as u16) % 0x10 * 0x40 + (d as u16) % 0x40
 }
 
 // Sequences of one byte, at most 32 of them.
@@ -82,7 +61,7 @@ fn ones(text: &[u8], out: &mut [u16]) -> Reach
     requires text_in_bounds { length (spelled text.now) ≤ length out.old }
     ensures { Strides text.now out.old out.new result.passed result.put }
 {
-    let stop = lower(text.len(), 32);
+    let stop = text.len().min(32);
     let mut at: usize = 0;
     while at < stop {
         let a = text[at];
@@ -92,7 +71,7 @@ fn ones(text: &[u8], out: &mut [u16]) -> Reach
                 put: at,
             };
         }
-        out[at] = wide(a);
+        out[at] = a as u16;
         at += 1;
     }
     Reach {
@@ -101,26 +80,26 @@ fn ones(text: &[u8], out: &mut [u16]) -> Reach
     }
 }
 
-// The sequence of one or two bytes that begins with a; where two bytes below 0x80 follow one another, `ones` is quicker.
-fn short_sequence(a: u8, b: u8) -> Sequence
-    ensures { Short a b result.unit result.size }
+// The sequence of one or two bytes that begins with a. Where two bytes below 0x80 follow one another none is taken: `ones` is quicker.
+fn short_sequence(a: u8, b: u8) -> Option<Sequence>
+    ensures { Short a b result }
 {
-    if 0xE0 <= a {
-        return Sequence { unit: 0, size: 0 };
+    if a < 0x80 {
+        if b < 0x80 {
+            return None;
+        }
+        return Some(Sequence {
+            unit: a as u16,
+            size: 1,
+        });
     }
-    if 0x80 <= a {
-        return Sequence {
+    if a < 0xE0 {
+        return Some(Sequence {
             unit: of_two(a, b),
             size: 2,
-        };
+        });
     }
-    if b < 0x80 {
-        return Sequence { unit: 0, size: 0 };
-    }
-    Sequence {
-        unit: wide(a),
-        size: 1,
-    }
+    None
 }
 
 // Sequences of two bytes, and single bytes below 0x80 between them.
@@ -132,14 +111,12 @@ fn twos(text: &[u8], out: &mut [u16]) -> Reach
     let mut at: usize = 0;
     let mut put: usize = 0;
     while 2 <= text.len() - at {
-        let s = short_sequence(text[at], text[at + 1]);
-        let size = s.size;
-        if size == 0 {
+        let Some(s) = short_sequence(text[at], text[at + 1]) else {
             return Reach { passed: at, put };
-        }
+        };
         out[put] = s.unit;
         put += 1;
-        at += size;
+        at += s.size;
     }
     Reach { passed: at, put }
 }
@@ -194,10 +171,8 @@ fn widen(text: &[u8], out: &mut [u16])
     requires { length text.now ≤ length out.old }
     ensures { out.new ≡ text.now ++ drop (length text.now) out.old }
 {
-    let mut i: usize = 0;
-    while i < text.len() {
-        out[i] = wide(text[i]);
-        i += 1;
+    for (i, &b) in text.iter().enumerate() {
+        out[i] = b as u16;
     }
 }
 
@@ -220,40 +195,11 @@ fn alike(text: &[u8], out: &mut [u16]) -> Reach
     fours(text, out)
 }
 
-// Are the first 64 bytes below 0x80?
-fn is_ascii(text: &[u8]) -> bool
-    requires { 64 ≤ length text.now }
-    ensures { result ≡ true → Ascii text.now 64 }
-{
-    let mut top: u8 = 0;
-    for k in 0..64 {
-        top = larger(top, text[k]);
-    }
-    top < 0x80
-}
-
-// So many bytes at the start are below 0x80, by whole blocks.
-fn ascii_run(text: &[u8]) -> usize
-    ensures { (result ≤ length text.now) × Ascii text.now result }
-{
-    let mut at: usize = 0;
-    while 64 <= text.len() - at {
-        if !is_ascii(&text[at..]) {
-            return at;
-        }
-        at += 64;
-    }
-    at
-}
-
 // So many bytes at the start are below 0x80, by whole blocks; none are looked for where they are not expected.
 fn expected_run(text: &[u8], ascii: bool) -> usize
     ensures { (result ≤ length text.now) × Ascii text.now result }
 {
-    if !ascii {
-        return 0;
-    }
-    ascii_run(text)
+    if ascii { ascii::run(text) } else { 0 }
 }
 
 // Sequences of one length, or a long run of bytes below 0x80 where one is expected.

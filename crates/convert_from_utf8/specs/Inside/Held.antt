@@ -1,12 +1,16 @@
 -- How far a page has the code points of a byte text with no damage, and the strides of the walks that test them and write them.
-use Rattle.std.specs.Prelude.{◌≡◌, ℕ, ◌+◌, ◌≤◌, List, [], length, drop}
+use Rattle.std.specs.Prelude.{◌≡◌, ℕ, ◌+◌, ◌≤◌, cond, Option, Some, None, List, [], length, drop}
 use Rattle.theory.specs.Reader.{cut}
 use Rattle.terms.specs.Strict.{damages}
 use Rattle.utf8.specs.Bytes.{bytes}
 use Rattle.utf8.specs.Scalar.{utf8}
-use Rattle.page.specs.Paged.{paged}
+use Rattle.page.specs.Paged.{place_of, has, paged}
 use Rattle.page.specs.Lacking.{lacking, first_or}
 use Rattle.convert_point.specs.Inside.Passes.{PassesTo}
+
+-- the first place at which a number stands in a table, if there is one
+abbrev pub place_in : ℕ → List ℕ → Option ℕ
+place_in c table = cond (has table c) (Some (place_of c table)) None
 
 -- a text that a page can hold: it has no damage, and the page lacks none of its code points
 abbrev pub Fits : List ℕ → List ℕ → Type 0

@@ -1,14 +1,12 @@
 -- The page has each code point passed; none are passed only where it lacks the first.
-use Prim.Native.Nat.{◌≤◌}
-use mathlib.Core.Path.{ap, ◌∙◌}
+use mathlib.Core.Path.{sym, ap, ◌∙◌}
 use lib.ListN.{length, length-drop}
-use borrow.Author.Tests.{lt-ltb, le-ltb}
 use native.Mathlib.Omega.{arith}
 use Rattle.terms.proofs.WalkBySegments.{part_is}
 use Rattle.terms.proofs.WalkWrites.{Met, met}
 use Rattle.utf8.specs.Scalar.{utf8}
 use Rattle.utf8.proofs.FaithfulForm.{utf8-faithful}
-use Rattle.page.specs.Paged.{place_of}
+use Rattle.convert_from_utf8.proofs.PlaceFound.{has-place, lacks-place}
 use Rattle.convert_from_utf8.proofs.HeldWalk.{reached-start, reached-next, met-lacking}
 use Rattle.convert_from_utf8.proofs.pages.held_some.Goals.{After-first_point-p}
 use Rattle.convert_from_utf8.proofs.pages.held_some.Goals as goal
@@ -20,24 +18,23 @@ pub first_point-p-requires : goal.first_point-p-requires
 first_point-p-requires c =
     let t = c.args.text.now in
     let at = c.loop-passed.passed in
-    (omega (arith, ap length (part_is t at) ∙ length-drop at t, c.loop-passed-test.true, c.lower-stop.ensures), rw (part_is t at) c.loop-passed.invariant.behind)
+    (omega (arith, ap length (part_is t at) ∙ length-drop at t, c.loop-passed-test.true, c.min-stop.ensures), rw (part_is t at) c.loop-passed.invariant.behind)
 
 -- the code point that was met
 here : (c : After-first_point-p)
     → Met utf8 c.args.text.now c.loop-passed.passed c.first_point-p.result.size c.first_point-p.result.number
 here c =
-    met utf8-faithful c.args.text.now c.loop-passed.passed (omega (arith, c.loop-passed-test.true, c.lower-stop.ensures)) _ _ c.first_point-p.ensures
+    met utf8-faithful c.args.text.now c.loop-passed.passed (omega (arith, c.loop-passed-test.true, c.min-stop.ensures)) _ _ c.first_point-p.ensures
 
 pub place_of-requires : goal.place_of-requires
 place_of-requires c = c.requires.page
 
-pub returns-then-place_of-ge256 : goal.returns-then-place_of-ge256
-returns-then-place_of-ge256 c =
+pub returns-in_default : goal.returns-in_default
+returns-in_default c =
     let table = c.args.numbers.now in
-    let k : length table ≤ place_of c.first_point-p.result.number table = omega (arith, c.if-place_of-ge256.true, c.place_of.ensures, c.requires.page.long) in
     record {
       reached = c.loop-passed.invariant;
-      ended = λ e other at. rw e at (met-lacking table c.args.text.now c.loop-passed.passed _ _ (here (goal.at.returns-then-place_of-ge256 c).After-first_point-p) (le-ltb (place_of c.first_point-p.result.number table) (length table) k) other at);
+      ended = λ e other at. rw e at (met-lacking table c.args.text.now c.loop-passed.passed _ _ (here (goal.at.returns-in_default c).After-first_point-p) (lacks-place c.first_point-p.result.number table (sym c.in_default.is ∙ c.place_of.ensures)) other at);
     }
 
 pub overflow_add-passed : goal.overflow_add-passed
@@ -51,8 +48,8 @@ pub loop-passed-preserved : goal.loop-passed-preserved
 loop-passed-preserved c =
     let table = c.args.numbers.now in
     reached-next table c.args.text.now c.loop-passed.passed _ _ (here (goal.at.loop-passed-preserved c).After-first_point-p) c.loop-passed.invariant
-    (lt-ltb (place_of c.first_point-p.result.number table) (length table) (omega (arith, c.if-place_of-ge256.false, c.place_of.ensures, c.requires.page.long)))
+    (has-place c.first_point-p.result.number table _ (sym c.in-Some.is ∙ c.place_of.ensures))
 
 pub returns : goal.returns
 returns c =
-    record { reached = c.loop-passed.invariant; ended = λ e. absurd (omega (arith, e, c.loop-passed-test.false, c.lower-stop.ensures, c.requires.text_nonzero.0)) }
+    record { reached = c.loop-passed.invariant; ended = λ e. absurd (omega (arith, e, c.loop-passed-test.false, c.min-stop.ensures, c.requires.text_nonzero.0)) }

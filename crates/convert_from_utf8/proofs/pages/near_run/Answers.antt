@@ -6,12 +6,12 @@ use native.Mathlib.Omega.{arith}
 use Rattle.ascii.specs.Ascii.{run_of}
 use Rattle.ascii.proofs.Leading.{run-few, run-ascii}
 use Rattle.convert_from_utf8.proofs.AsciiBeginning.{ascii-part}
-use Rattle.convert_from_utf8.proofs.pages.near_run.Goals.{After-lower-near}
+use Rattle.convert_from_utf8.proofs.pages.near_run.Goals.{After-min-near}
 use Rattle.convert_from_utf8.proofs.pages.near_run.Goals as goal
 
 -- the part is as long as was asked
-long : (c : After-lower-near) → length (take c.lower-near.result c.args.text.now) ≡ c.lower-near.result
-long c = length-take-le c.lower-near.result c.args.text.now (omega (arith, c.lower-near.ensures))
+long : (c : After-min-near) → length (take c.min-near.result c.args.text.now) ≡ c.min-near.result
+long c = length-take-le c.min-near.result c.args.text.now (omega (arith, c.min-near.ensures))
 
 pub slice_bounds-run-end : goal.slice_bounds-run-end
 slice_bounds-run-end c = sym (long c)
@@ -19,5 +19,5 @@ slice_bounds-run-end c = sym (long c)
 pub returns : goal.returns
 returns c =
     let text = c.args.text.now in
-    let part = take c.lower-near.result text in
-    rw c.run.ensures (omega (arith, run-few part, long (goal.at.returns c).After-lower-near, c.lower-near.ensures), ascii-part text c.lower-near.result (run_of part) (run-few part) (run-ascii part))
+    let part = take c.min-near.result text in
+    rw c.run.ensures (omega (arith, run-few part, long (goal.at.returns c).After-min-near, c.min-near.ensures), ascii-part text c.min-near.result (run_of part) (run-few part) (run-ascii part))

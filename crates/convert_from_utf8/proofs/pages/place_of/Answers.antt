@@ -1,18 +1,35 @@
 -- Any place at which the number stands is its place in a page.
-use Prim.Native.Nat.{◌+◌, ◌%◌}
-use mathlib.Core.Path.{sym, ◌∙◌}
+use Prim.Native.Nat.{◌+◌, ◌%◌, ◌<◌}
+use mathlib.Core.Path.{◌≡◌, sym, ◌∙◌}
+use lib.ListN.{drop, length-drop}
+use lib.Seq.{take_all}
 use native.Mathlib.Omega.{arith}
-use Rattle.convert_from_utf8.proofs.PlaceFound.{found-any, found_from}
+use Rattle.std.specs.Prelude.{Some}
+use Rattle.convert_from_utf8.specs.Inside.Held.{place_in}
+use Rattle.convert_from_utf8.proofs.PlaceFound.{position-is, found-in, found-behind}
+use Rattle.convert_from_utf8.proofs.pages.place_of.Goals.{In-Some}
 use Rattle.convert_from_utf8.proofs.pages.place_of.Goals as goal
 
-pub returns-then-wide-c : goal.returns-then-wide-c
-returns-then-wide-c c =
-    found-any c.args.c c.args.numbers.now c.requires (c.args.c % 256) (omega arith) (sym c.wide.ensures ∙ c.if-wide-c.true)
+pub returns-then-numbers-low : goal.returns-then-numbers-low
+returns-then-numbers-low c = found-in c.args.c c.args.numbers.now c.requires (c.args.c % 256) (omega arith) c.if-numbers-low.true
 
-pub returns-then-wide-c-2 : goal.returns-then-wide-c-2
-returns-then-wide-c-2 c =
-    found-any c.args.c c.args.numbers.now c.requires ((c.args.c % 256 + 0xA0) % 256) (omega arith) (sym c.wide-2.ensures ∙ c.if-wide-c-2.true)
+pub returns-then-numbers-far : goal.returns-then-numbers-far
+returns-then-numbers-far c =
+    found-in c.args.c c.args.numbers.now c.requires ((c.args.c % 256 + 0xA0) % 256) (omega arith) c.if-numbers-far.true
 
-pub returns-then-high-lt256 : goal.returns-then-high-lt256
-returns-then-high-lt256 c =
-    c.search-high.ensures ∙ found_from c.args.c c.args.numbers.now c.requires 0xA0 (omega (arith, c.search-high.ensures, c.if-high-lt256.true))
+-- a high one
+behind : (c : In-Some)
+    → (0xA0 + c.in-Some.n < 256) × (Some (0xA0 + c.in-Some.n) ≡ place_in c.args.c c.args.numbers.now)
+behind c =
+    let table = c.args.numbers.now in
+    let e = sym c.in-Some.is ∙ c.search.ensures ∙ position-is c.args.c _ in
+    found-behind c.args.c table c.requires 0xA0 c.in-Some.n (omega arith) (rw (take_all 96 (drop 0xA0 table) (omega (arith, length-drop 0xA0 table, c.requires.long))) at e)
+
+pub overflow_add-result : goal.overflow_add-result
+overflow_add-result c = omega (arith, (behind c).0)
+
+pub returns-in-Some : goal.returns-in-Some
+returns-in-Some c = (behind c).1
+
+pub returns : goal.returns
+returns c = c.search-2.ensures ∙ position-is c.args.c c.args.numbers.now

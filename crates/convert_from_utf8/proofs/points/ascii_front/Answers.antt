@@ -1,24 +1,18 @@
 -- Each byte that was passed is below 0x80.
-use Prim.Native.Nat.{ℕ, ◌<◌}
-use lib.ListN.{get_or}
-use borrow.Author.Count.{below_more}
+use lib.ListN.{take, length-take}
+use lib.Dec.{ltb}
+use borrow.Author.Tests.{ltb-true}
 use native.Mathlib.Omega.{arith}
+use Rattle.std.proofs.lemmas.List.Sums.{prefix_len-le-length, prefix_len_passes}
+use Rattle.convert_from_utf8.proofs.AsciiBeginning.{ascii-part}
 use Rattle.convert_from_utf8.proofs.points.ascii_front.Goals as goal
-
-pub returns-then-text-lt16 : goal.returns-then-text-lt16
-returns-then-text-lt16 c = (omega arith, λ j l. absurd (omega arith))
-
-pub loop-k-init : goal.loop-k-init
-loop-k-init c = (omega arith, λ j l. absurd (omega arith))
-
-pub returns-then-text-k-ge128 : goal.returns-then-text-k-ge128
-returns-then-text-k-ge128 c = (omega (arith, c.loop-k.invariant.0, c.if-text-lt16.false), c.loop-k.invariant.1)
-
-pub loop-k-preserved : goal.loop-k-preserved
-loop-k-preserved c =
-    let text = c.args.text.now in
-    (omega arith, below_more (λ (j : ℕ). get_or text j 0 < 0x80) c.loop-k.k c.loop-k.invariant.1 c.if-text-k-ge128.false)
 
 pub returns : goal.returns
 returns c =
-    (omega (arith, c.if-text-lt16.false), λ k h. c.loop-k.invariant.1 k (omega (arith, h, c.loop-k-test.false)))
+    let text = c.args.text.now in
+    let part = take 16 text in
+    let few = prefix_len-le-length (λ b. ltb b 0x80) part in
+    rw c.leading.ensures (
+      omega (arith, few, length-take 16 text),
+      ascii-part text 16 _ few (λ k h. ltb-true _ _ (prefix_len_passes (λ b. ltb b 0x80) part k 0 h)),
+    )

@@ -24,14 +24,14 @@ four c =
     first-told c.args.text.now c.requires.0 c.requires.1 3 (wants-three (get_or c.args.text.now 0 0) c.if-a-lt240.false)
 
 pub returns-then-a-lt128 : goal.returns-then-a-lt128
-returns-then-a-lt128 c = rw c.wide.ensures (one (goal.at.returns-then-a-lt128 c).Then-a-lt128).says
+returns-then-a-lt128 c = (one (goal.at.returns-then-a-lt128 c).Then-a-lt128).says
 
 pub bounds-text-1 : goal.bounds-text-1
 bounds-text-1 c = omega (arith, (two (goal.at.bounds-text-1 c).Then-a-lt224).inside)
 
 pub returns-then-a-lt224 : goal.returns-then-a-lt224
 returns-then-a-lt224 c =
-    rw (c.with_later.ensures, c.wide-then-a-lt224.ensures) (two (goal.at.returns-then-a-lt224 c).Then-a-lt224).says
+    rw c.with_later.ensures (two (goal.at.returns-then-a-lt224 c).Then-a-lt224).says
 
 pub bounds-text-1-then-a-lt240 : goal.bounds-text-1-then-a-lt240
 bounds-text-1-then-a-lt240 c = omega (arith, (three (goal.at.bounds-text-1-then-a-lt240 c).Then-a-lt240).inside)
@@ -41,7 +41,7 @@ bounds-text-2 c = omega (arith, (three (goal.at.bounds-text-2 c).Then-a-lt240).i
 
 pub returns-then-a-lt240 : goal.returns-then-a-lt240
 returns-then-a-lt240 c =
-    rw (c.with_later-then-a-lt240-2.ensures, c.with_later-then-a-lt240.ensures, c.wide-then-a-lt240.ensures) (three (goal.at.returns-then-a-lt240 c).Then-a-lt240).says
+    rw (c.with_later-then-a-lt240-2.ensures, c.with_later-then-a-lt240.ensures) (three (goal.at.returns-then-a-lt240 c).Then-a-lt240).says
 
 pub bounds-text-1-2 : goal.bounds-text-1-2
 bounds-text-1-2 c = omega (arith, (four (goal.at.bounds-text-1-2 c).Else-a-lt240).inside)
@@ -54,4 +54,4 @@ bounds-text-3 c = omega (arith, (four (goal.at.bounds-text-3 c).Else-a-lt240).in
 
 pub returns : goal.returns
 returns c =
-    rw (c.with_later-4.ensures, c.with_later-3.ensures, c.with_later-2.ensures, c.wide-2.ensures) (four (goal.at.returns c).Else-a-lt240).says
+    rw (c.with_later-4.ensures, c.with_later-3.ensures, c.with_later-2.ensures) (four (goal.at.returns c).Else-a-lt240).says
