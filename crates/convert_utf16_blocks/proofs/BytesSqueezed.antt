@@ -12,7 +12,8 @@ use Rattle.theory.proofs.Divisions.{written-append}
 use Rattle.theory.proofs.Rows.{sets-start}
 use Rattle.terms.proofs.WalkBySegments.{part_is}
 use Rattle.terms.proofs.WalkWrites.{lent, back, back_is}
-use Rattle.utf8.specs.Scalar.{sequence, later}
+use Rattle.utf8.specs.Scalar.{sequence, later, utf8}
+use Rattle.convert_point.specs.Puts.{fitting, Puts}
 use Rattle.convert_utf16_blocks.specs.Block.{bytes_of}
 use Rattle.convert_utf16_blocks.specs.Inside.Places.{size_of, first_byte, second_byte, Squeezed}
 
@@ -38,10 +39,12 @@ size-some x = under x 0x80
     (λ l. rw (lt-ltb x 0x80 l) (omega arith, omega arith))
     (λ m. under x 0x800 (λ l. rw (le-ltb x 0x80 m, lt-ltb x 0x800 l) (omega arith, omega arith)) (λ n. rw (le-ltb x 0x80 m, le-ltb x 0x800 n) (omega arith, omega arith)))
 
--- its sequence, stored alone
-pub stored-alone : (x : ℕ) (ws out : List ℕ) → sequence x ≡ ws → length ws ≤ length out
-    → (length ws ≡ length (sequence x)) × (sets out zero ws ≡ sequence x ++ drop (length (sequence x)) out)
-stored-alone x ws out e h = rw e (refl, sets-start out ws h)
+-- its sequence has room in three places
+fitted : (x room : ℕ) → x < 0x10000 → 3 ≤ room → fitting utf8 room x ≡ sequence x
+fitted x room h r =
+    let a : length (sequence x) ≤ room = omega (arith, size_is x h, size-some x) in
+    let b : x ≤ 0x10FFFF = omega arith in
+    rw (le-ltb room (length (sequence x)) a, le-ltb 0x10FFFF x b)
 
 -- ---- one unit more
 
@@ -102,9 +105,9 @@ module _ (units out out' : List ℕ) (n some o : ℕ) (s : Squeezed units n some
           (ap (λ (r : List ℕ). take o out' ++ r) (places_of x l vs (drop (o + 3) out') q))
 
   -- and alone
-  pub put_next : (fewer : ℕ) → some ≡ fewer + 1 → (ys : List ℕ) → ys ≡ sequence x ++ drop (length (sequence x)) (lent out' o)
+  stored_next : (fewer : ℕ) → some ≡ fewer + 1 → (ys : List ℕ) → ys ≡ sequence x ++ drop (length (sequence x)) (lent out' o)
       → Squeezed units (n + 1) fewer out (back out' o ys) (o + length (sequence x))
-  put_next fewer e ys p =
+  stored_next fewer e ys p =
       let v = sequence x in
       let m : ℕ = length v in
       let z : size_of x ≡ m = size_is x l in
@@ -122,3 +125,9 @@ module _ (units out out' : List ℕ) (n some o : ℕ) (s : Squeezed units n some
             ∙ drop-drop fewer (o + m) out'
             ∙ drop_more out' out (o + some) (o + m + fewer) (omega (arith, size-some x)) s.kept;
       }
+
+  pub put_next : (fewer : ℕ) → some ≡ fewer + 1 → (ys : List ℕ) (places : ℕ) → Puts (fitting utf8 (length (lent out' o)) x) (lent out' o) ys places
+      → Squeezed units (n + 1) fewer out (back out' o ys) (o + places)
+  put_next fewer e ys places p =
+      let f = fitted x (length (lent out' o)) l (omega (arith, ap length (part_is out' o) ∙ length-drop o out')) in
+      rw (p.count ∙ ap length f) (stored_next fewer e ys (rw f at p.output))

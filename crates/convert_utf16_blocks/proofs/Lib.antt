@@ -1,5 +1,3 @@
--- Rows that are filled from units one by one, and the numbers that no unit is above
-pub mod RowsFilled
 -- The bytes of units that stand alone, stored one unit behind another
 pub mod BytesSqueezed
 -- The units that a text begins with, and units below 0x80, which are alone and their own bytes

@@ -1,15 +1,11 @@
 -- Units that stand alone: how they are tested unit by unit, and that they divide into segments of one whole unit each.
-use mathlib.Core.Path.{◌≡◌, refl, sym, ap}
+use mathlib.Core.Path.{◌≡◌, refl, ap}
 use mathlib.Core.Logic.{◌⊎◌, inl, inr}
-use Prim.Native.Nat.{ℕ, ◌+◌, ◌≤◌, ◌<◌}
-use native.Mathlib.Numerals.{add-one}
-use mathlib.Core.Bool.{Bool, true, false, not, ◌&&◌}
+use Prim.Native.Nat.{ℕ, ◌≤◌, ◌<◌}
+use mathlib.Core.Bool.{Bool, true, false, ◌&&◌}
 use mathlib.Core.List.{List, [], ◌∷◌, ◌++◌, map}
-use lib.ListN.{length, get_or, take}
-use lib.Seq.{take-suc}
-use lib.Bits.{bit_or}
-use lib.Dec.{ltb, eqb}
-use borrow.Author.Tests.{ltb-true, lt-ltb, le-ltb}
+use lib.Dec.{ltb}
+use borrow.Author.Tests.{ltb-true}
 use native.Mathlib.Omega.{arith}
 use Rattle.theory.specs.Reader.{Segment, cut}
 use Rattle.theory.specs.Table.{Kind, whole}
@@ -17,7 +13,6 @@ use Rattle.theory.specs.Tally.{written}
 use Rattle.theory.proofs.Cases.{split, both}
 use Rattle.theory.proofs.Divisions.{cut-cons, written-append}
 use Rattle.terms.specs.Form.{Form, point_of, converted}
-use Rattle.terms.specs.Told.{bit}
 use Rattle.utf16.specs.Units.{units}
 use Rattle.utf16.specs.Scalar.{utf16}
 use Rattle.utf16.specs.Alone.{alone, all_alone}
@@ -29,12 +24,6 @@ and-true : (a : Bool) → a && true ≡ a
 and-true true = refl
 and-true false = refl
 
-pub alone-low : (x : ℕ) → x < 0xD800 → ltb x 0xD800 ≡ alone x
-alone-low x h = rw (lt-ltb x 0xD800 h)
-
-pub alone_high : (x : ℕ) → 0xD800 ≤ x → x < 0x10000 → ltb 0xDFFF x ≡ alone x
-alone_high x h l = rw (le-ltb x 0xD800 h, lt-ltb x 0x10000 l) (sym (and-true (ltb 0xDFFF x)))
-
 pub alone_append : (xs ys : List ℕ) → all_alone (xs ++ ys) ≡ all_alone xs && all_alone ys
 alone_append [] ys = refl
 alone_append (x ∷ xs) ys = rw (alone_append xs ys) (grouped (alone x) (all_alone xs) (all_alone ys))
@@ -43,20 +32,8 @@ alone_append (x ∷ xs) ys = rw (alone_append xs ys) (grouped (alone x) (all_alo
     grouped true b c = refl
     grouped false b c = refl
 
-pub alone-next : (text : List ℕ) (k : ℕ) → k < length text → all_alone (take (k + 1) text) ≡ all_alone (take k text) && alone (get_or text k 0)
-alone-next text k h =
-    rw (add-one, take-suc text k 0 h, alone_append) (ap (λ (b : Bool). all_alone (take k text) && b) (and-true (alone (get_or text k 0))))
-
--- that a unit is no half, of which the code has 1 for each
-pub halves-next : (a b : Bool) → bit_or (bit (not a)) (bit (not b)) ≡ bit (not (a && b))
-halves-next true true = refl
-halves-next true false = refl
-halves-next false true = refl
-halves-next false false = refl
-
-pub halves-none : (a : Bool) → eqb (bit (not a)) 0 ≡ a
-halves-none true = refl
-halves-none false = refl
+pub alone-next : (xs : List ℕ) (x : ℕ) → all_alone (xs ++ x ∷ []) ≡ all_alone xs && alone x
+alone-next xs x = rw (alone_append xs (x ∷ []), and-true (alone x))
 
 -- ---- units that stand alone, as segments
 

@@ -1,3 +1,5 @@
+-- A fold over a slice: what it gives is shown first, and then what holds at each step
+pub mod UnitsFolded
 -- The rows of the unit table
 pub mod RowsOfUnits
 -- A SEGMENT OF UNITS IS READ WITH EXACTLY ONE CAUSE, that of the paper's sentence

@@ -1,8 +1,8 @@
 // UTF-16: the segment and the code point that stand first in a text of units, and whether all of them stand by themselves.
 #![tactic(auto)]
 
-ghost use Rattle.std.specs.Prelude.{◌≡◌, not, [], ◌∷◌};
-ghost use Rattle.terms.specs.Told.{bit, told_first, first_says};
+ghost use Rattle.std.specs.Prelude.{◌≡◌};
+ghost use Rattle.terms.specs.Told.{told_first, first_says};
 ghost use Rattle.terms.specs.Form.{first_point};
 ghost use Rattle.utf16.specs.Units.{units};
 ghost use Rattle.utf16.specs.Scalar.{utf16};
@@ -40,12 +40,6 @@ pub fn segment(text: &[u16]) -> First
     First::Whole(2)
 }
 
-fn wide(x: u16) -> u32
-    ensures { result ≡ x }
-{
-    x as u32
-}
-
 // The code point that stands first in a text, if there is one.
 pub fn point(text: &[u16]) -> Option<Point>
     ensures { result ≡ first_point utf16 text.now }
@@ -53,11 +47,11 @@ pub fn point(text: &[u16]) -> Option<Point>
     match segment(text) {
         First::Nothing => None,
         First::Whole(n) => {
-            let x = wide(text[0]);
+            let x = u32::from(text[0]);
             if n == 1 {
                 return Some(Point { number: x, size: n });
             }
-            let y = wide(text[1]);
+            let y = u32::from(text[1]);
             Some(Point {
                 number: 0x10000 + (x - 0xD800) * 0x400 + (y - 0xDC00),
                 size: n,
@@ -80,19 +74,9 @@ fn is_alone(x: u16) -> bool
     x < 0xD800 || 0xDFFF < x
 }
 
-fn none(t: bool) -> u16
-    ensures { result ≡ bit (not t) }
-{
-    if t { 0 } else { 1 }
-}
-
-// Does each unit of a text stand by itself, being no half of a pair?
+// Does each unit of a text stand by itself, being no half of a pair? All are tested: a loop that ends at the first half is slower.
 pub fn are_alone(text: &[u16]) -> bool
     ensures { result ≡ all_alone text.now }
 {
-    let mut halves: u16 = 0;
-    for k in 0..text.len() {
-        halves |= none(is_alone(text[k]));
-    }
-    halves == 0
+    text.iter().fold(true, |alone, x| alone & is_alone(*x))
 }

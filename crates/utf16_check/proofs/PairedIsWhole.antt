@@ -3,15 +3,16 @@ use mathlib.Core.Path.{◌≡◌, refl, sym, ap, ◌∙◌}
 use mathlib.Core.Logic.{◌⊎◌, inl, inr}
 use Prim.Native.Nat.{ℕ, zero, suc, ◌+◌, ◌≤◌, ◌<◌}
 use native.Mathlib.Numerals.{add-one}
-use mathlib.Core.Bool.{Bool, true, false, true≢false}
+use mathlib.Core.Bool.{Bool, true, false, beq, true≢false}
 use mathlib.Core.List.{List, [], ◌∷◌}
-use lib.ListN.{length, get_or, drop, length-drop}
+use lib.ListN.{length, get_or, take, drop, length-drop}
 use lib.Seq.{drop-drop}
-use lib.Bits.{bit_or, bit_xor, and_le_l, and_le_r, or_add_and}
+use mir.Val.{bool_byte}
 use lib.Dec.{leb}
 use borrow.Author.Count.{below_more}
 use borrow.Author.Tests.{leb-true, le-leb, lt-leb}
 use native.Mathlib.Omega.{arith}
+use Rattle.std.proofs.lemmas.List.{get_or-take}
 use Rattle.theory.specs.Reader.{cut}
 use Rattle.theory.specs.Table.{is_damage}
 use Rattle.theory.specs.Tally.{entries}
@@ -96,26 +97,33 @@ paired_whole (suc (suc n)) (x ∷ y ∷ ys) h p s u = split (is_first x)
     let r = paired_whole (suc n) (y ∷ ys) (omega arith) (record { each = λ k l. p.each (suc k) (omega arith) }) g (λ k. u (suc k)) in
     rw e (whole_on (x ∷ y ∷ ys) 1 (suc n + b) (one-whole x (y ∷ ys) f s (u 0)) r))
 
--- ---- the code's bits, and the strict check
-
-pub even_same : (a b : Bool) → bit_xor (bit a) (bit b) ≡ 0 → a ≡ b
-even_same true true e = refl
-even_same false false e = refl
-even_same true false e = absurd (omega arith)
-even_same false true e = absurd (omega arith)
-
-pub or_none : (a b : ℕ) → bit_or a b ≡ 0 → (a ≡ 0) × (b ≡ 0)
-or_none a b e = (omega (arith, or_add_and a b, and_le_r a b), omega (arith, or_add_and a b, and_le_l a b))
+-- ---- the code's tests, and the strict check
 
 pub paired_next : (text : List ℕ) (k : ℕ) → Paired text k → is_first (get_or text k 0) ≡ is_second (get_or text (k + 1) 0) → Paired text (k + 1)
 paired_next text k p e = record {
   each = below_more (λ (i : ℕ). is_first (get_or text i 0) ≡ is_second (get_or text (suc i) 0)) k p.each (rw (← add-one k) e);
 }
 
--- a bit that is not 1
-pub bit-none : (a : Bool) → (bit a ≡ 1 → ⊥) → a ≡ false
-bit-none false n = refl
-bit-none true n = absurd (n refl)
+-- a block, and the unit behind it
+pub block_whole : (text units : List ℕ) → 129 ≤ length text → units ≡ take 129 text → is_second (get_or units 0 0) ≡ false → Paired units 128
+    → ((k : ℕ) → get_or text k 0 < 0x10000)
+    → WholeTo text (128 + bit (is_second (get_or units 128 0)))
+block_whole text units h e s p u =
+    let same : (k : ℕ) → k < 129 → get_or units k 0 ≡ get_or text k 0 = λ k l. ap (λ (xs : List ℕ). get_or xs k 0) e ∙ get_or-take 129 text k 0 l in
+    let q : Paired text 128 = record { each = λ k l. rw (← same k (omega arith), ← same (suc k) (omega arith)) (p.each k l) } in
+    rw (same 128 (omega arith)) (paired_whole 128 text (omega arith) q (rw (← same 0 (omega arith)) s) u)
+
+-- two tests with one answer
+pub same_test : (a b : Bool) → beq a b ≡ true → a ≡ b
+same_test true true e = refl
+same_test false false e = refl
+same_test true false e = absurd (true≢false (sym e))
+same_test false true e = absurd (true≢false (sym e))
+
+-- the number of a test
+pub bit_is : (b : Bool) → bool_byte b ≡ bit b
+bit_is true = refl
+bit_is false = refl
 
 pub clean_to : (text : List ℕ) (at n : ℕ) → Clean units text at → WholeTo (drop at text) n → Clean units text (at + n)
 clean_to text at n c w = record {

@@ -9,49 +9,29 @@ ghost use Rattle.utf16_check.specs.Inside.Paired.{is_first, is_second, Paired, W
 
 use terms::{Cause, Decoder, First, Refusal};
 
-// A unit as a number of places.
-fn wide_place(x: u16) -> usize
-    ensures { result ≡ x }
+// Is a unit the first half of a pair?
+fn is_first(x: u16) -> bool
+    ensures { result ≡ is_first x }
 {
-    x as usize
+    matches!(x, 0xD800..=0xDBFF)
 }
 
-// 1 for the first half of a pair, else 0.
-fn first_half(x: u16) -> u16
-    ensures { result ≡ bit (is_first x) }
+// Is a unit the second half of a pair?
+fn is_second(x: u16) -> bool
+    ensures { result ≡ is_second x }
 {
-    if x < 0xD800 {
-        return 0;
-    }
-    if 0xDC00 <= x {
-        return 0;
-    }
-    1
+    matches!(x, 0xDC00..=0xDFFF)
 }
 
-// 1 for the second half of a pair, else 0.
-fn second_half(x: u16) -> u16
-    ensures { result ≡ bit (is_second x) }
-{
-    if x < 0xDC00 {
-        return 0;
-    }
-    if 0xDFFF < x {
-        return 0;
-    }
-    1
-}
-
-// Is each of 128 units a first half exactly if the one behind it is a second half?
-fn is_paired(text: &[u16]) -> bool
-    requires { 129 ≤ length text.now }
+// Is each of 128 units a first half exactly if the one behind it is a second half? All are tested: a loop that ends at the first that is not so is slower.
+fn is_paired(text: &[u16; 129]) -> bool
     ensures { result ≡ true → Paired text.now 128 }
 {
-    let mut odd: u16 = 0;
-    for k in 0..128 {
-        odd |= first_half(text[k]) ^ second_half(text[k + 1]);
+    let mut paired = true;
+    for (x, y) in text.iter().zip(&text[1..]) {
+        paired &= is_first(*x) == is_second(*y);
     }
-    odd == 0
+    paired
 }
 
 // So many units of a text, in blocks, are whole segments. There may be more.
@@ -59,15 +39,11 @@ fn whole_blocks(text: &[u16]) -> usize
     ensures { WholeTo text.now result }
 {
     let mut at: usize = 0;
-    while 129 <= text.len() - at {
-        let rest = &text[at..];
-        if second_half(rest[0]) == 1 {
+    while let Some(units) = text[at..].first_chunk::<129>() {
+        if is_second(units[0]) || !is_paired(units) {
             return at;
         }
-        if !is_paired(rest) {
-            return at;
-        }
-        at += 128 + wide_place(second_half(rest[128]));
+        at += 128 + usize::from(is_second(units[128]));
     }
     at
 }

@@ -14,14 +14,9 @@ first_byte x = cond (ltb x 0x80) x (cond (ltb x 0x800) (0xC0 + x / 0x40) (0xE0 +
 abbrev pub second_byte : ℕ → ℕ
 second_byte x = cond (ltb x 0x800) (later x) (later (x / 0x40))
 
--- no unit is above this number
-pub record Under (units : List ℕ) (most : ℕ) : Type 0 where
-  pub each : (k : ℕ) → k < length units → get_or units k 0 ≤ most
-
--- the first n of a row are what f gives for the units
-pub record Mapped (f : ℕ → ℕ) (units : List ℕ) (n : ℕ) (row : List ℕ) : Type 0 where
-  pub long : 128 ≡ length row
-  pub each : (k : ℕ) → k < n → get_or row k 0 ≡ f (get_or units k 0)
+-- a row holds what a function gives for each unit
+pub record Mapped (gives : ℕ → ℕ → Type 0) (units row : List ℕ) : Type 0 where
+  pub each : (k : ℕ) → k < length units → gives (get_or units k 0) (get_or row k 0)
 
 -- the bytes of the first n units stand at the start of the output, and the places that are some behind them keep what they held
 pub record Squeezed (units : List ℕ) (n some : ℕ) (out out' : List ℕ) (places : ℕ) : Type 0 where

@@ -5,7 +5,7 @@ use Rattle.terms.proofs.PointTold.{Pointed, says_of, point-nothing, point-whole,
 use Rattle.utf16.specs.Scalar.{utf16}
 use Rattle.utf16.proofs.RowsOfUnits.{FirstHalf, SecondHalf, units_division}
 use Rattle.utf16.proofs.ReaderTells.{whole_pair}
-use Rattle.utf16.proofs.point.Goals.{After-wide-y, In-Whole}
+use Rattle.utf16.proofs.point.Goals.{After-from-y, In-Whole}
 use Rattle.utf16.proofs.point.Goals as goal
 
 -- a whole segment
@@ -18,15 +18,15 @@ pub bounds-text-0 : goal.bounds-text-0
 bounds-text-0 c = let p = pointed (goal.at.bounds-text-0 c).In-Whole in omega (arith, p.some, p.inside)
 
 pub returns-then-n-eq1 : goal.returns-then-n-eq1
-returns-then-n-eq1 c = rw c.wide-x.ensures (says_of (pointed (goal.at.returns-then-n-eq1 c).In-Whole) 1 c.if-n-eq1.true)
+returns-then-n-eq1 c = rw c.from-x.ensures (says_of (pointed (goal.at.returns-then-n-eq1 c).In-Whole) 1 c.if-n-eq1.true)
 
 pub bounds-text-1 : goal.bounds-text-1
 bounds-text-1 c = let p = pointed (goal.at.bounds-text-1 c).In-Whole in omega (arith, p.some, p.inside)
 
 -- a pair
-halves : (c : After-wide-y) → Pointed utf16 c.args.text.now c.in-Whole.n
-    → (c.in-Whole.n ≡ 2) × FirstHalf c.wide-x.result × SecondHalf c.wide-y.result
-halves c p = rw (c.wide-x.ensures, c.wide-y.ensures) (whole_pair _ _ p (omega (arith, p.some)))
+halves : (c : After-from-y) → Pointed utf16 c.args.text.now c.in-Whole.n
+    → (c.in-Whole.n ≡ 2) × FirstHalf c.from-x.result × SecondHalf c.from-y.result
+halves c p = rw (c.from-x.ensures, c.from-y.ensures) (whole_pair _ _ p (omega (arith, p.some)))
 
 pub overflow_sub-result : goal.overflow_sub-result
 overflow_sub-result c = omega (arith, halves c (pointed (goal.at.overflow_sub-result c).In-Whole))
@@ -50,7 +50,7 @@ returns-in-Nothing c =
 pub returns-else-n-eq1 : goal.returns-else-n-eq1
 returns-else-n-eq1 c =
     let p = pointed (goal.at.returns-else-n-eq1 c).In-Whole in
-    rw (c.wide-x.ensures, c.wide-y.ensures) (says_of p 2 (halves c p).0)
+    rw (c.from-x.ensures, c.from-y.ensures) (says_of p 2 (halves c p).0)
 
 pub returns-in-Damage : goal.returns-in-Damage
 returns-in-Damage c =
