@@ -1,15 +1,14 @@
 -- The bytes of units that stand alone, stored one unit behind another: of each unit's three places those that it takes, or those alone.
 use mathlib.Core.Path.{◌≡◌, refl, sym, ap, ◌∙◌}
-use Prim.Native.Nat.{ℕ, zero, suc, ◌+◌, ◌-◌, ◌*◌, ◌≤◌, ◌<◌}
+use Prim.Native.Nat.{ℕ, suc, ◌+◌, ◌-◌, ◌*◌, ◌≤◌, ◌<◌}
 use native.Mathlib.Numerals.{add-one}
 use mathlib.Core.List.{List, [], ◌∷◌, ◌++◌, append_assoc, append-nil}
 use lib.ListN.{length, get_or, take, drop, set, length-append, length-set, length-drop}
-use lib.Seq.{take-suc, take_at, take-append-add, drop_at, drop-drop, drop-set-lt, length-take-le, sets, sets-eq}
+use lib.Seq.{take-suc, take_at, take-append-add, drop_at, drop-drop, drop-set-lt, length-take-le, sets-eq}
 use borrow.Author.Tests.{lt-ltb, le-ltb}
 use native.Mathlib.Omega.{arith}
 use Rattle.theory.proofs.Cases.{under}
 use Rattle.theory.proofs.Divisions.{written-append}
-use Rattle.theory.proofs.Rows.{sets-start}
 use Rattle.terms.proofs.WalkBySegments.{part_is}
 use Rattle.terms.proofs.WalkWrites.{lent, back, back_is}
 use Rattle.utf8.specs.Scalar.{sequence, later, utf8}

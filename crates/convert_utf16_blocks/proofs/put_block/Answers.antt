@@ -1,5 +1,5 @@
 -- What is written is the first block, which the text and the output have room for.
-use Rattle.std.proofs.Common.{◌≡◌, ◌∙◌, sym, length}
+use Rattle.std.proofs.Common.{◌∙◌, sym, length}
 use Rattle.utf16.specs.Alone.{all_alone}
 use Rattle.convert_utf16_blocks.specs.Block.{block}
 use Rattle.convert_utf16_blocks.proofs.LowUnits.{low-alone, puts_low, puts_mixed, first-long, opening-all, within_all}

@@ -8,5 +8,5 @@ returns g c =
     let u = c.args.units.now in
     let b = c.row-bytes.result in
     let e : b ≡ u = low-row u b c.requires.under (omega arith)
-        (λ k h. let p = c.row-bytes.ensures.each k h in let q : get_or b k 0 ≡ get_or u k 0 % 0x100 = search rules in q) in
+    (λ k h. let p = c.row-bytes.ensures.each k h in let q : get_or b k 0 ≡ get_or u k 0 % 0x100 = search rules in q) in
     ap (λ (b : List ℕ). b ++ drop g.row.N c.args.out.now) (c.copy_from_slice.ensures.after ∙ e)

@@ -12,6 +12,6 @@ returns c =
     let o = c.squeeze-at.new.out in
     let at = c.squeeze-at.result in
     let t = put_next u out o 126 2 at s (omega (arith, s.few, s.long, c.requires)) (omega arith) c.from.result (sym c.from.ensures) (omega (arith, c.from.ensures, c.fits-units 126)) 1 refl
-        c.put_bytes-at.new.out c.put_bytes-at.result c.put_bytes-at.ensures in
+    c.put_bytes-at.new.out c.put_bytes-at.result c.put_bytes-at.ensures in
     put_next u out (back o at c.put_bytes-at.new.out) 127 1 (at + c.put_bytes-at.result) t (omega (arith, t.few, t.long, c.requires)) (omega arith)
     c.from-2.result (sym c.from-2.ensures) (omega (arith, c.from-2.ensures, c.fits-units 127)) 0 refl c.put_bytes-at-2.new.out c.put_bytes-at-2.result c.put_bytes-at-2.ensures

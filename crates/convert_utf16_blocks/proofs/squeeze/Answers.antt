@@ -1,5 +1,5 @@
 -- The units passed are squeezed into the output.
-use Rattle.std.proofs.Common.{◌≡◌, ◌∙◌, ℕ, List, length, get_or, refl, subst, arith}
+use Rattle.std.proofs.Common.{◌≡◌, ◌∙◌, ℕ, get_or, refl, subst, arith}
 use Rattle.utf8.specs.Scalar.{later}
 use Rattle.convert_utf16_blocks.specs.Inside.Places.{size_of, first_byte, second_byte, Squeezed}
 use Rattle.convert_utf16_blocks.proofs.BytesSqueezed.{squeezed-next}

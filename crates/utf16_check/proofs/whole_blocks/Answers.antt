@@ -1,9 +1,9 @@
 -- The units passed are whole segments.
-use Rattle.std.proofs.Common.{◌≡◌, ◌∙◌, ◌+◌, List, ℕ, ap, sym, length, get_or, take, drop, length-drop, arith}
+use Rattle.std.proofs.Common.{◌≡◌, ◌∙◌, ◌+◌, ap, sym, length, get_or, take, drop, arith}
 use Rattle.std.proofs.lemmas.List.{get_or-drop}
 use Rattle.terms.specs.Told.{bit}
 use Rattle.terms.proofs.WalkBySegments.{part_is}
-use Rattle.utf16_check.specs.Inside.Paired.{is_second, WholeTo}
+use Rattle.utf16_check.specs.Inside.Paired.{is_second}
 use Rattle.utf16_check.proofs.PairedIsWhole.{whole_on, block_whole, bit_is}
 use Rattle.utf16_check.proofs.whole_blocks.Goals as goal
 
