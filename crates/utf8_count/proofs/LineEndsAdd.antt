@@ -3,9 +3,10 @@ use mathlib.Core.Path.{◌≡◌, refl, sym, ap, ◌∙◌}
 use Prim.Native.Nat.{ℕ, zero, suc, ◌+◌, ◌-◌, ◌≤◌, ◌<◌, min}
 use native.Mathlib.Nat.{zero-add}
 use mathlib.Core.Bool.{Bool, true, false, cond}
+use mathlib.Core.Logic.{◌⊎◌, inl, inr}
 use mathlib.Core.List.{List, [], ◌∷◌, ◌++◌}
-use lib.ListN.{length, get_or, take, drop, length-drop}
-use lib.Seq.{drop-drop, drop-length, get_or-take}
+use lib.ListN.{length, get_or, drop, length-drop}
+use lib.Seq.{drop-drop, drop-length}
 use lib.Dec.{leb, ltb, eqb}
 use borrow.Author.Tests.{leb-true, ltb-true, ne_eqb}
 use native.Mathlib.Omega.{arith}
@@ -114,65 +115,76 @@ pub ends-laters : (ys zs : List ℕ) → Laters ys → ends_in (length ys) (ys +
 ends-laters [] zs a = refl
 ends-laters (y ∷ ys) zs a = omega (arith, end_later y (get_or (ys ++ zs) 0 0) (get_or (ys ++ zs) 1 0) a.0, ends-laters ys zs a.1)
 
--- ---- counted by each byte and the two behind it: those of a row but for a part that is left, and for the last two bytes
+-- ---- counted by each byte and the two behind it: a row but for the part that is left, with the parts one and two bytes behind it
 
-ends-first : (left : List ℕ) → 3 ≤ length left
-    → ends_in (length left - 2) left ≡ end_first left + ends_in (length (drop 1 left) - 2) (drop 1 left)
-ends-first left h =
-    let e : length left - 2 ≡ suc (length (drop 1 left) - 2) = omega (arith, h, length-drop 1 left) in
-    ap (λ (k : ℕ). ends_in k left) e
+pub record Passed (row left next third : List ℕ) (ends : ℕ) : Type 0 where
+  pub next-is : next ≡ drop 1 left
+  pub third-is : third ≡ drop 2 left
+  pub ends-are : ends + ends_in (length third) left ≡ ends_in (length row - 2) row
 
--- a byte and the two behind it
-pub record Three (left item : List ℕ) : Type 0 where
-  pub enough : 3 ≤ length left
-  pub same : item ≡ take 3 left
+pub passed-none : (row : List ℕ) → Passed row row (drop 1 row) (drop 2 row) 0
+passed-none row = record {
+  next-is = refl;
+  third-is = refl;
+  ends-are = ap (λ (k : ℕ). 0 + ends_in k row) (length-drop 2 row) ∙ zero-add (ends_in (length row - 2) row);
+}
 
-module _ (left item : List ℕ) (t : Three left item) where
-  item_at : (i : ℕ) → i < 3 → get_or item i 0 ≡ get_or left i 0
-  item_at i h = ap (λ (xs : List ℕ). get_or xs i 0) t.same ∙ get_or-take 3 left i 0 h
+pub passed-few : (row left next third : List ℕ) (ends : ℕ) → Passed row left next third ends → ends ≤ length row - 2
+passed-few row left next third ends p = omega (arith, p.ends-are, ends-few (length row - 2) row)
 
-  item-first : end_of (get_or item 0 0) (get_or item 1 0) (get_or item 2 0) ≡ end_first left
-  item-first = rw (item_at 0 (omega arith), item_at 1 (omega arith), item_at 2 (omega arith))
+pub passed-all : (row left next third : List ℕ) (ends : ℕ) → Passed row left next third ends → length third ≡ 0
+    → ends ≡ ends_in (length row - 2) row
+passed-all row left next third ends p e =
+    let z : ends_in (length third) left ≡ 0 = rw e refl in omega (arith, p.ends-are, z)
 
-pub record Passed (row left : List ℕ) (ends : ℕ) : Type 0 where
-  pub ends-are : ends + ends_in (length left - 2) left ≡ ends_in (length row - 2) row
+-- they end together
+pub passed-end : (row left next third : List ℕ) (ends : ℕ) → Passed row left next third ends
+    → (length left ≡ 0) ⊎ ((length next ≡ 0) ⊎ (length third ≡ 0)) → length third ≡ 0
+passed-end row left next third ends p o =
+    let m : length next ≡ length left - 1 = ap length p.next-is ∙ length-drop 1 left in
+    let n : length third ≡ length left - 2 = ap length p.third-is ∙ length-drop 2 left in
+    elim o [ inl e ↦ omega arith | inr f ↦ elim f [ inl e ↦ omega arith | inr e ↦ e ] ]
 
-pub passed-none : (row : List ℕ) → Passed row row 0
-passed-none row = record { ends-are = omega arith }
+-- one more
+pub record Steps (left next third : List ℕ) (x y z : ℕ) (left' next' third' : List ℕ) : Type 0 where
+  pub first : left ≡ x ∷ left'
+  pub second : next ≡ y ∷ next'
+  pub last : third ≡ z ∷ third'
 
-module _ (row left : List ℕ) (ends : ℕ) (p : Passed row left ends) where
-  pub passed-next : (item : List ℕ) → Three left item
-      → Passed row (drop 1 left) (ends + end_of (get_or item 0 0) (get_or item 1 0) (get_or item 2 0))
-  passed-next item t = record { ends-are = omega (arith, p.ends-are, ends-first left t.enough, item-first left item t) }
-
-  pub passed-few : ends ≤ length row - 2
-  passed-few = omega (arith, p.ends-are, ends-few (length row - 2) row)
-
-  pub passed-all : length left < 3 → ends ≡ ends_in (length row - 2) row
-  passed-all h =
-      let e : length left - 2 ≡ 0 = omega arith in
-      let z : ends_in (length left - 2) left ≡ 0 = rw e refl in
-      omega (arith, p.ends-are, z)
+pub passed-next : (row left next third : List ℕ) (ends : ℕ) → Passed row left next third ends
+    → (x y z : ℕ) (left' next' third' : List ℕ) → Steps left next third x y z left' next' third'
+    → Passed row left' next' third' (ends + end_of x y z)
+passed-next row left next third ends p x y z left' next' third' s =
+    let e : left' ≡ y ∷ next' = sym (ap (drop 1) s.first) ∙ sym p.next-is ∙ s.second in
+    let f : next' ≡ z ∷ third' = sym (ap (drop 1) e) ∙ sym (ap (drop 2) s.first) ∙ sym p.third-is ∙ s.last in
+    let q : ends + ends_in (length (z ∷ third')) (x ∷ left') ≡ ends_in (length row - 2) row = rw (s.first, s.last) at p.ends-are in
+    let k : end_first (x ∷ left') ≡ end_of x y z = rw (e, f) refl in
+    record {
+      next-is = rw e refl;
+      third-is = rw (e, f) refl;
+      ends-are = omega (arith, q, k);
+    }
 
 -- as long as none is longer than a byte
-pub record Short (row left : List ℕ) (ends long : ℕ) : Type 0 where
-  pub ends-at-most : ends + (length left - 2) ≤ length row - 2
-  pub long-at-most : long + (length left - 2) ≤ length row - 2
-  pub ends-are : long ≡ 0 → Passed row left ends
+pub record Short (row left next third : List ℕ) (ends long : ℕ) : Type 0 where
+  pub ends-at-most : ends + length third ≤ length row - 2
+  pub long-at-most : long + length third ≤ length row - 2
+  pub ends-are : long ≡ 0 → Passed row left next third ends
 
-pub short_none : (row : List ℕ) → Short row row 0 0
-short_none row = record { ends-at-most = omega arith; long-at-most = omega arith; ends-are = λ z. passed-none row }
+pub short_none : (row : List ℕ) → Short row row (drop 1 row) (drop 2 row) 0 0
+short_none row =
+    let l = length-drop 2 row in
+    record { ends-at-most = omega (arith, l); long-at-most = omega (arith, l); ends-are = λ z. passed-none row }
 
-pub short-next : (row left : List ℕ) (ends long : ℕ) → Short row left ends long → (item : List ℕ) → Three left item
-    → Short row (drop 1 left) (ends + short_end (get_or item 0 0) (get_or item 1 0)) (long + long_of (get_or item 0 0))
-short-next row left ends long s item t =
-    let x : ℕ = get_or item 0 0 in
-    let y : ℕ = get_or item 1 0 in
-    let l = length-drop 1 left in
+pub short-next : (row left next third : List ℕ) (ends long : ℕ) → Short row left next third ends long
+    → (x y z : ℕ) (left' next' third' : List ℕ) → Steps left next third x y z left' next' third'
+    → Short row left' next' third' (ends + short_end x y) (long + long_of x)
+short-next row left next third ends long s x y z left' next' third' t =
+    let l : length third ≡ suc (length third') = ap length t.last in
     record {
-      ends-at-most = omega (arith, s.ends-at-most, short-few x y, t.enough, l);
-      long-at-most = omega (arith, s.long-at-most, long-few x, t.enough, l);
+      ends-at-most = omega (arith, s.ends-at-most, short-few x y, l);
+      long-at-most = omega (arith, s.long-at-most, long-few x, l);
       ends-are = λ none.
-          let e : end_of x y (get_or item 2 0) ≡ short_end x y = end_short x y (get_or item 2 0) (omega arith) in
-          rw e at (passed-next row left ends (s.ends-are (omega arith)) item t);
+          let e : end_of x y z ≡ short_end x y = end_short x y z (omega arith) in
+          rw e at (passed-next row left next third ends (s.ends-are (omega arith)) x y z left' next' third' t);
     }

@@ -1,5 +1,5 @@
 // The line ends of a byte text: one, and those of a part.
-ghost use Rattle.std.specs.Prelude.{◌≡◌, true, ℕ, ◌+◌, ◌≤◌};
+ghost use Rattle.std.specs.Prelude.{◌≡◌, true, ℕ, ◌+◌, ◌≤◌, length, drop};
 ghost use Rattle.utf8_count.specs.Counts.{end_of, end_first, ends_in};
 ghost use Rattle.utf8_count.specs.Inside.Ends.{short_end, long_of, ZeroFrom};
 
@@ -15,11 +15,17 @@ fn end_of(x: u8, y: u8, z: u8) -> u8
     u8::from((x == 0x0A) | lone | two | three)
 }
 
-// Does what begins with x end no line, whatever follows? Most bytes by one test.
+// Does what begins with x end no line, whatever follows? Most bytes by one test: a `matches!` of all three ranges takes two.
 fn ends_none(x: u8) -> bool
     ensures { result ≡ true → (y z : ℕ) → end_of x y z ≡ 0 }
 {
-    matches!(x, 0x0E..=0xC1 | 0xC3..=0xE1 | 0xE3..=0xFF)
+    if 0x0D < x && x < 0xC2 {
+        return true;
+    }
+    if 0xC2 < x && x < 0xE2 {
+        return true;
+    }
+    0xE2 < x
 }
 
 // Whether a line ends behind what a text begins with.
@@ -48,31 +54,41 @@ fn long_of(x: u8) -> u8
     u8::from((x == 0xC2) | (x == 0xE2))
 }
 
-// Those of the first 128 bytes, by looking at the two behind each.
-fn every(row: &[u8; 130]) -> usize
+// Those of the first 128 bytes of a row, by looking at the two behind each: so that a loop is wide, they are lent by
+// themselves, and not by `windows`.
+fn every(row: &[u8], next: &[u8], third: &[u8]) -> usize
+    requires { (length row.now ≡ 130) × (next.now ≡ drop 1 row.now) × (third.now ≡ drop 2 row.now) }
     ensures { result ≡ ends_in 128 row.now }
 {
     let mut ends: u8 = 0;
-    for [x, y, z] in row.array_windows::<3>() {
+    for ((x, y), z) in row.iter().zip(next).zip(third) {
         ends += end_of(*x, *y, *z);
     }
     usize::from(ends)
 }
 
 // The same: most texts have only ends of one byte, for which one look behind each is enough.
-fn block_ends(row: &[u8; 130]) -> usize
+fn short_first(row: &[u8], next: &[u8], third: &[u8]) -> usize
+    requires { (length row.now ≡ 130) × (next.now ≡ drop 1 row.now) × (third.now ≡ drop 2 row.now) }
     ensures { result ≡ ends_in 128 row.now }
 {
     let mut ends: u8 = 0;
     let mut long: u8 = 0;
-    for [x, y, _] in row.array_windows::<3>() {
+    for ((x, y), _) in row.iter().zip(next).zip(third) {
         ends += short_end(*x, *y);
         long += long_of(*x);
     }
     if long == 0 {
         return usize::from(ends);
     }
-    every(row)
+    every(row, next, third)
+}
+
+// Those of the first 128 bytes, where two more stand behind them.
+fn block_ends(row: &[u8; 130]) -> usize
+    ensures { result ≡ ends_in 128 row.now }
+{
+    short_first(row, &row[1..], &row[2..])
 }
 
 // Byte by byte.
