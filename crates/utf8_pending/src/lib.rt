@@ -9,7 +9,7 @@ ghost use Rattle.utf8_pending.specs.Tail.{settled_size, is_tail, seam_of, seam_w
 
 use terms::{Decoder, First};
 
-// The first four bytes of what is pending and a piece behind it, unused ones 0, and how many there are.
+// The first four bytes of what is pending and a piece behind it, unused ones 0, and how many there are: fixed memory, and C is told both.
 #[derive(Clone, Copy)]
 pub struct Seam {
     pub bytes: [u8; 4],

@@ -120,7 +120,8 @@ fn right_to(t: &[u8]) -> usize
     m as usize
 }
 
-// So many bytes of a text stand well, by blocks of 128 from a place up to which they do. There may be more.
+// So many bytes of a text stand well, by blocks of 128 from a place up to which they do. There may be more. Counted by hand, here and in
+// the slim ones: each block begins with the last three bytes of the one before, so `chunks_exact` does not give them.
 fn wide_blocks(text: &[u8], from: usize, low: bool) -> usize
     requires { (3 ≤ from) × Good text.now from }
     ensures { (3 ≤ result) × Good text.now result }
