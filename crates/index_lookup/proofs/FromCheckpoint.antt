@@ -2,17 +2,21 @@
 use mathlib.Core.Path.{◌≡◌, refl, sym, ap, ◌∙◌}
 use Prim.Native.Nat.{ℕ, ◌+◌, ◌-◌, ◌*◌, ◌/◌, ◌≤◌, ◌<◌}
 use mathlib.Core.Logic.{inl}
-use mathlib.Core.Bool.{Bool, true, false, ◌&&◌}
+use mathlib.Core.Bool.{Bool, true, false, ◌&&◌, true≢false}
 use mathlib.Core.List.{List, [], ◌∷◌}
-use lib.ListN.{length, take, drop, length-drop}
-use lib.Dec.{leb}
-use borrow.Author.Tests.{leb-true, lt-ltb, le-ltb}
+use lib.ListN.{length, get_or, take, drop, length-drop}
+use lib.Dec.{eqb, leb, ltb}
+use borrow.Author.Tests.{leb-true, lt-ltb, le-ltb, ltb-false}
 use native.Mathlib.Omega.{arith}
 use Rattle.theory.specs.Index.{marks, usable, from, by_bytes}
-use Rattle.theory.proofs.Cases.{both}
+use Rattle.theory.proofs.Cases.{both, split}
 use Rattle.theory.proofs.Rows.{div_in}
 use Rattle.theory.proofs.TrueIndexAnswers.{Chosen, halve-chosen}
 use Rattle.terms.specs.Limits.{limit}
+use Rattle.std.specs.Prelude.{Ok}
+use Rattle.terms.specs.Told.{told_refusal, told_checked}
+use Rattle.terms.specs.declared.Refusal.{Refusal}
+use Rattle.terms.proofs.ToldBack.{no_zero}
 use Rattle.terms.proofs.WalkBySegments.{part_is}
 use Rattle.place.specs.Measures.{ruler, reader, longest}
 use Rattle.place.specs.Lookup.{found_says}
@@ -22,7 +26,7 @@ use Rattle.place.specs.declared.Offset.{Offset}
 use Rattle.index_checkpoint.specs.Checkpoints.{spacing, needed, checkpoint}
 use Rattle.index_checkpoint.specs.Choosing.{less, passes, halved}
 use Rattle.index_lookup.specs.Looking.{indexed, byte_says, halving_says}
-use Rattle.index_lookup.specs.Inside.Resuming.{Among, from_says}
+use Rattle.index_lookup.specs.Inside.Resuming.{Among, from_says, room_says}
 
 -- ---- the walk from a usable checkpoint, which is handed `&text[at..]`
 
@@ -59,15 +63,27 @@ from-read to j text row q e = ap (λ (p : Place). found_says (from reader ruler 
 -- ---- the refusals before: 2, then 3
 
 module _ (text row granted : List ℕ) where
-  pub indexed-over : limit < length text → 2 ∷ [] ≡ indexed text row granted
-  indexed-over h = rw (lt-ltb limit (length text) h)
+  pub indexed-on : length text ≤ limit → needed (length text) ≤ length row → indexed text row granted ≡ granted
+  indexed-on h k = rw (le-ltb limit (length text) h, le-ltb (length row) (needed (length text)) k)
 
-  module _ (h : length text ≤ limit) where
-    pub indexed-short : (need : ℕ) → need ≡ needed (length text) → length row < need → 3 ∷ need ∷ [] ≡ indexed text row granted
-    indexed-short need e k = rw (le-ltb limit (length text) h, ← e, lt-ltb (length row) need k)
+  -- what was refused before is refused alike
+  pub indexed-refused : (r : Refusal) → told_refusal r ≡ room_says (length text) row (0 ∷ []) → told_refusal r ≡ indexed text row granted
+  indexed-refused r e = split (ltb limit (length text))
+      (λ o. let g : told_refusal r ≡ 2 ∷ [] = rw o at e in rw o g)
+      (λ o. split (ltb (length row) (needed (length text)))
+      (λ s. let g : told_refusal r ≡ 3 ∷ needed (length text) ∷ [] = rw (o, s) at e in rw (o, s) g)
+      (λ s.
+      let g : told_refusal r ≡ 0 ∷ [] = rw (o, s) at e in
+      absurd (true≢false (sym (ap (λ (l : List ℕ). eqb (get_or l 0 0) 0) g) ∙ no_zero r))))
 
-    pub indexed-on : needed (length text) ≤ length row → indexed text row granted ≡ granted
-    indexed-on k = rw (le-ltb limit (length text) h, le-ltb (length row) (needed (length text)) k)
+-- what was granted is within the limit, and the index is long enough
+pub indexed-granted : (text row : List ℕ) → told_checked (Ok tt) ≡ room_says (length text) row (0 ∷ [])
+    → (length text ≤ limit) × (needed (length text) ≤ length row)
+indexed-granted text row e = split (ltb limit (length text))
+    (λ o. let g : 0 ∷ [] ≡ 2 ∷ [] = rw o at e in let z : ◌≡◌ {A = ℕ} 0 2 = cc in absurd (omega arith))
+    (λ o. split (ltb (length row) (needed (length text)))
+    (λ s. let g : 0 ∷ [] ≡ 3 ∷ needed (length text) ∷ [] = rw (o, s) at e in let z : ◌≡◌ {A = ℕ} 0 3 = cc in absurd (omega arith))
+    (λ s. (ltb-false limit (length text) o, ltb-false (length row) (needed (length text)) s)))
 
 -- ---- then the checkpoint that is chosen, which is one of the text's
 

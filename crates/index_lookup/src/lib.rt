@@ -1,12 +1,13 @@
 // The index of a byte text: lookup in it, whatever its numbers are.
 #![tactic(auto)]
 
-ghost use Rattle.std.specs.Prelude.{◌≡◌, leb, ltb};
+ghost use Rattle.std.specs.Prelude.{◌≡◌, [], ◌∷◌, leb, ltb};
+ghost use Rattle.terms.specs.Told.{told_checked};
 ghost use Rattle.place.specs.Lookup.{told_placed};
 ghost use Rattle.place.specs.Walk.{number, measure};
 ghost use Rattle.index_checkpoint.specs.Choosing.{less};
 ghost use Rattle.index_lookup.specs.Looking.{byte_says, halving_says};
-ghost use Rattle.index_lookup.specs.Inside.Resuming.{Among, from_says};
+ghost use Rattle.index_lookup.specs.Inside.Resuming.{Among, from_says, room_says};
 
 use index_checkpoint::SPACING;
 use place::{Bytes, Lines, Offset, Place, Points, Units};
@@ -25,11 +26,10 @@ fn look_from(text: &[u8], row: &[u32], j: usize, to: Offset) -> Result<Place, Re
     place_lookup::resume(&text[at..], q, to)
 }
 
-// The place that counts so many bytes: refusals 2, 3 and 4, then from the checkpoint that division chooses.
-pub fn at_byte(text: &[u8], row: &[u32], offset: Bytes) -> Result<Place, Refusal>
-    ensures { told_placed result ≡ byte_says offset.0 text.now row.now }
+// The refusals before a lookup, by the text's length: 2 over the limit, then 3 where the index has fewer numbers than the text's has.
+fn check(long: usize, row: &[u32]) -> Result<(), Refusal>
+    ensures { told_checked result ≡ room_says long row.now (0 ∷ []) }
 {
-    let long = text.len();
     if Decoder::LIMIT < long {
         return Err(Refusal::OverLimit);
     }
@@ -37,6 +37,15 @@ pub fn at_byte(text: &[u8], row: &[u32], offset: Bytes) -> Result<Place, Refusal
     if row.len() < needed {
         return Err(Refusal::NoRoom { needed });
     }
+    Ok(())
+}
+
+// The place that counts so many bytes: refusals 2, 3 and 4, then from the checkpoint that division chooses.
+pub fn at_byte(text: &[u8], row: &[u32], offset: Bytes) -> Result<Place, Refusal>
+    ensures { told_placed result ≡ byte_says offset.0 text.now row.now }
+{
+    let long = text.len();
+    check(long, row)?;
     if long < offset.0 {
         return Err(Refusal::PastEnd);
     }
@@ -47,13 +56,7 @@ pub fn at_byte(text: &[u8], row: &[u32], offset: Bytes) -> Result<Place, Refusal
 fn by_halving(text: &[u8], row: &[u32], to: Offset) -> Result<Place, Refusal>
     ensures { told_placed result ≡ halving_says (measure to) (less to) (number to) text.now row.now }
 {
-    if Decoder::LIMIT < text.len() {
-        return Err(Refusal::OverLimit);
-    }
-    let needed = index_checkpoint::needed(text.len());
-    if row.len() < needed {
-        return Err(Refusal::NoRoom { needed });
-    }
+    check(text.len(), row)?;
     let n = index_checkpoint::marks(text.len());
     look_from(text, row, index_checkpoint::halve(row, n, to), to)
 }

@@ -1,35 +1,29 @@
 -- `at_byte` meets its contract: refusals 2, 3 and 4, then lookup from the checkpoint that division chooses.
 use mathlib.Core.Path.{◌∙◌}
-use Prim.Native.Nat.{◌≤◌}
-use lib.ListN.{length}
-use Rattle.index_checkpoint.specs.Checkpoints.{needed}
-use Rattle.index_lookup.proofs.FromCheckpoint.{indexed-over, indexed-short, byte_past, byte-among, byte-from}
-use Rattle.index_lookup.proofs.at_byte.Goals.{Else-row-needed}
+use Rattle.std.proofs.lemmas.Result.{err_from_is_err_and}
+use Rattle.index_lookup.proofs.FromCheckpoint.{indexed-refused, indexed-granted, byte_past, byte-among, byte-from}
 use Rattle.index_lookup.proofs.at_byte.Goals as goal
 
-pub returns-then-long-gt-LIMIT : goal.returns-then-long-gt-LIMIT
-returns-then-long-gt-LIMIT c = let a = c.args in indexed-over a.text.now a.row.now _ c.if-long-gt-LIMIT.true
-
-pub returns-then-row-needed : goal.returns-then-row-needed
-returns-then-row-needed c =
+pub returns-in_err-check : goal.returns-in_err-check
+returns-in_err-check c =
     let a = c.args in
-    indexed-short a.text.now a.row.now _ c.if-long-gt-LIMIT.false c.needed-needed.result c.needed-needed.ensures c.if-row-needed.true
-
--- the index is long enough
-roomy : (c : Else-row-needed) → let a = c.args in needed (length a.text.now) ≤ length a.row.now
-roomy c = rw (← c.needed-needed.ensures) c.if-row-needed.false
+    let p = err_from_is_err_and c.from_residual.result c.from_residual.ensures.1 in
+    rw (p.1, p.2) (indexed-refused a.text.now a.row.now _ c.in_err-check.field-0.0 c.in_err-check.ensures)
 
 pub returns-then-long-offset : goal.returns-then-long-offset
 returns-then-long-offset c =
     let a = c.args in
-    byte_past a.text.now a.row.now c.if-long-gt-LIMIT.false (roomy (goal.at.returns-then-long-offset c).Else-row-needed) a.offset.0 c.if-long-offset.true
+    let g = indexed-granted a.text.now a.row.now c.in_ok-check.ensures in
+    byte_past a.text.now a.row.now g.0 g.1 a.offset.0 c.if-long-offset.true
 
 pub look_from-requires : goal.look_from-requires
 look_from-requires c =
     let a = c.args in
-    byte-among a.text.now a.row.now c.if-long-gt-LIMIT.false (roomy (goal.at.look_from-requires c).Else-row-needed) a.offset.0 c.if-long-offset.false
+    let g = indexed-granted a.text.now a.row.now c.in_ok-check.ensures in
+    byte-among a.text.now a.row.now g.0 g.1 a.offset.0 c.if-long-offset.false
 
 pub returns : goal.returns
 returns c =
     let a = c.args in
-    c.look_from.ensures ∙ byte-from a.text.now a.row.now c.if-long-gt-LIMIT.false (roomy (goal.at.returns c).Else-row-needed) a.offset.0 c.if-long-offset.false
+    let g = indexed-granted a.text.now a.row.now c.in_ok-check.ensures in
+    c.look_from.ensures ∙ byte-from a.text.now a.row.now g.0 g.1 a.offset.0 c.if-long-offset.false
