@@ -66,15 +66,13 @@ fn stretch(text: &[u8], from: Place, most: usize, row: &mut [u32], classes: &[u8
 {
     let mut p = from;
     let mut at: usize = 0;
-    let mut left = most;
-    while 0 < left {
-        let size = crate::settled::settled_by(&text[at..], utf8::segment_by(&text[at..], classes));
+    for k in 0..most {
+        let size = settled::settled_by(&text[at..], utf8::segment_by(&text[at..], classes));
         if size == 0 {
             return p;
         }
         p = advance(p, size, utf8_count::end_first(&text[at..]), row);
         at += size;
-        left -= 1;
     }
     p
 }
@@ -95,8 +93,8 @@ fn walk_by(text: &[u8], from: Place, taken: usize, row: &mut [u32], classes: &[u
             return keep(&text[at..], q, taken);
         }
         let start = q.bytes - from.bytes;
-        let run = crate::settled::settled_run(&text[start..]);
-        p = crate::run::pass_run(&text[start..], run, q, row);
+        let run = settled::settled_run(&text[start..]);
+        p = run::pass_run(&text[start..], run, q, row);
         at = start + run;
         wait = utf8_check::wait_behind(wait, run);
     }
@@ -115,9 +113,9 @@ fn walk(text: &[u8], from: Place, taken: usize, row: &mut [u32]) -> Builder
     requires { Walks from text.now row.old }
     ensures { Closes taken (stream_of from row.old text.now) row.new result }
 {
-    let run = crate::settled::settled_run(text);
-    let p = crate::run::pass_run(text, run, from, row);
-    if crate::settled::is_left(&text[run..]) {
+    let run = settled::settled_run(text);
+    let p = run::pass_run(text, run, from, row);
+    if settled::is_left(&text[run..]) {
         return keep(&text[run..], p, taken);
     }
     walk_on(&text[run..], p, taken, row)
@@ -134,7 +132,7 @@ fn join(seam: &[u8], state: Builder, piece: &[u8], row: &mut [u32]) -> Builder
     if state.pending == 0 {
         return walk(piece, p, taken, row);
     }
-    let size = crate::settled::settled_by(seam, utf8::segment(seam));
+    let size = settled::settled_by(seam, utf8::segment(seam));
     if size == 0 {
         return keep(seam, p, taken);
     }
@@ -175,7 +173,7 @@ fn end(state: Builder, row: &mut [u32])
 pub fn feed(state: Builder, piece: &[u8], row: &mut [u32]) -> Built
     ensures { Feeds state piece.now row.old row.new result }
 {
-    if let Err(why) = crate::state::check(state, piece.len(), row.len()) {
+    if let Err(why) = state.check(piece.len(), row.len()) {
         return Built {
             answer: Err(why),
             state,
@@ -191,7 +189,7 @@ pub fn feed(state: Builder, piece: &[u8], row: &mut [u32]) -> Built
 pub fn finish(state: Builder, row: &mut [u32]) -> Built
     ensures { Finishes state row.old row.new result }
 {
-    if let Err(why) = crate::state::check(state, 0, row.len()) {
+    if let Err(why) = state.check(0, row.len()) {
         return Built {
             answer: Err(why),
             state,

@@ -7,6 +7,7 @@ ghost use Rattle.index_build.specs.Inside.Steps.{Walked};
 ghost use Rattle.index_build.specs.Inside.Summed.{summed, Adds, boundary, Covers, back};
 ghost use Rattle.index_build.specs.Inside.Runs.{Runs};
 
+use index_checkpoint::SPACING;
 use place::Place;
 
 // The counts behind the next n bytes of a text.
@@ -23,22 +24,23 @@ fn add_sums(p: Place, text: &[u8], n: usize) -> Place
     }
 }
 
+// May this byte stand behind the first of a sequence?
+fn is_later(byte: u8) -> bool
+    ensures { result ≡ is_later byte }
+{
+    0x80 <= byte && byte < 0xC0
+}
+
 // The last byte at or before n that is no later byte.
 fn boundary(text: &[u8], n: usize) -> usize
     requires { (n < length text.now) × (is_later (get_or text.now 0 0) ≡ false) }
     ensures { result ≡ boundary text.now n }
 {
     let mut b = n;
-    loop {
-        let x = text[b];
-        if x < 0x80 {
-            return b;
-        }
-        if 0xC0 <= x {
-            return b;
-        }
+    while is_later(text[b]) {
         b -= 1;
     }
+    b
 }
 
 // The units of a segment that begins with this byte.
@@ -81,16 +83,12 @@ pub(crate) fn pass_run(text: &[u8], run: usize, from: Place, row: &mut [u32]) ->
     let mut q = from;
     let mut at: usize = 0;
     loop {
-        let end = at + (index_checkpoint::SPACING - q.bytes % index_checkpoint::SPACING);
+        let end = at + (SPACING - q.bytes % SPACING);
         if run < end {
             return add_sums(q, &text[at..], run - at);
         }
         q = add_sums(q, &text[at..], end - at);
-        index_checkpoint::mark(
-            row,
-            q.bytes / index_checkpoint::SPACING,
-            step_back(text, run, end, q),
-        );
+        index_checkpoint::mark(row, q.bytes / SPACING, step_back(text, run, end, q));
         at = end;
     }
 }

@@ -10,34 +10,24 @@ use terms::First;
 fn is_return(text: &[u8]) -> bool
     ensures { result ≡ waits_behind text.now [] }
 {
-    if text.len() != 1 {
-        return false;
-    }
-    text[0] == 0x0D
+    text.len() == 1 && text[0] == 0x0D
 }
 
 // Is nothing of this text settled, as it is empty or a lone 0D?
 pub(crate) fn is_left(text: &[u8]) -> bool
     ensures { result ≡ is_left text.now }
 {
-    if text.len() == 0 {
-        return true;
-    }
-    is_return(text)
+    text.is_empty() || is_return(text)
 }
 
 // How many bytes of a text are settled by the segment that is told to stand first in it.
 pub(crate) fn settled_by(text: &[u8], seg: First) -> usize
     ensures { result ≡ settled_by text.now seg }
 {
-    let size = utf8_pending::settled_size(seg);
-    if size != 1 {
-        return size;
+    match utf8_pending::settled_size(seg) {
+        1 if is_return(text) => 0,
+        size => size,
     }
-    if is_return(text) {
-        return 0;
-    }
-    size
 }
 
 // How many bytes of a text are whole segments and settled: all before the first damage, but for a 0D that ends the text.

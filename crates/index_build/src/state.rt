@@ -48,6 +48,35 @@ impl Builder {
             lines: self.lines,
         }
     }
+
+    // The tests of a state. No sum is made that could wrap.
+    fn is_sound(self) -> bool
+        ensures { result ≡ sound self }
+    {
+        is_kept(self.held, self.pending)
+            && self.taken <= Decoder::LIMIT
+            && self.pending <= self.taken
+            && self.lines <= self.points
+            && self.points <= self.units
+            && self.units <= self.taken - self.pending
+    }
+
+    // May it take so many bytes more, with so many numbers in the row?
+    pub(crate) fn check(self, more: usize, room: usize) -> Result<(), Refusal>
+        ensures { told_checked result ≡ build_says self more room }
+    {
+        if !self.is_sound() {
+            return Err(Refusal::BadState);
+        }
+        if Decoder::LIMIT - self.taken < more {
+            return Err(Refusal::OverLimit);
+        }
+        let needed = index_checkpoint::needed(self.taken + more);
+        if room < needed {
+            return Err(Refusal::NoRoom { needed });
+        }
+        Ok(())
+    }
 }
 
 // What a call that builds answers, and the state then.
@@ -57,7 +86,7 @@ pub struct Built {
     pub state: Builder,
 }
 
-// Are these the pending bytes of a builder: those of a decoder, or a lone 0D?
+// Are these the pending bytes of a builder: those of a decoder, or a lone 0D? (Tried as one `&&`: the proof did not close.)
 fn is_kept(held: [u8; Decoder::PENDING], n: usize) -> bool
     ensures { result ≡ is_tail reader held n }
 {
@@ -74,44 +103,4 @@ fn is_kept(held: [u8; Decoder::PENDING], n: usize) -> bool
         return false;
     }
     held[2] == 0
-}
-
-// The tests of a state. No sum is made that could wrap.
-fn is_sound(state: Builder) -> bool
-    ensures { result ≡ sound state }
-{
-    let held = state.held;
-    if !is_kept(held, state.pending) {
-        return false;
-    }
-    if Decoder::LIMIT < state.taken {
-        return false;
-    }
-    if state.taken < state.pending {
-        return false;
-    }
-    if state.points < state.lines {
-        return false;
-    }
-    if state.units < state.points {
-        return false;
-    }
-    state.units <= state.taken - state.pending
-}
-
-// May a state take so many bytes more, with so many numbers in the row?
-pub(crate) fn check(state: Builder, more: usize, room: usize) -> Result<(), Refusal>
-    ensures { told_checked result ≡ build_says state more room }
-{
-    if !is_sound(state) {
-        return Err(Refusal::BadState);
-    }
-    if Decoder::LIMIT - state.taken < more {
-        return Err(Refusal::OverLimit);
-    }
-    let needed = index_checkpoint::needed(state.taken + more);
-    if room < needed {
-        return Err(Refusal::NoRoom { needed });
-    }
-    Ok(())
 }
