@@ -5,31 +5,16 @@ ghost use Rattle.std.specs.Prelude.{◌≡◌, true, ◌≤◌, ◌<◌, length}
 ghost use Rattle.terms.specs.Limits.{limit};
 ghost use Rattle.terms.specs.Form.{is_scalar, repaired, converted};
 ghost use Rattle.terms.specs.Strict.{damaged};
-ghost use Rattle.terms.specs.Writing.{Writes, roomed, repair_says, convert_says};
+ghost use Rattle.terms.specs.Writing.{Writes, repair_says, convert_says};
 ghost use Rattle.utf8.specs.Scalar.{sequence, utf8};
 ghost use Rattle.utf16.specs.Scalar.{utf16};
 ghost use Rattle.code_points.specs.Points.{code_points};
-ghost use Rattle.convert_point.specs.Target.{form_of};
 ghost use Rattle.convert_point.specs.Puts.{Puts};
 ghost use Rattle.convert_point.specs.Inside.Passes.{Passes, PassesTo};
 
 use convert_point::Target;
 use convert_utf16_blocks::Part;
 use terms::{Decoder, Refusal};
-
-// How many places a text takes in another form.
-fn need(text: &[u16], target: Target) -> usize
-    requires { length text.now ≤ limit }
-    ensures { result ≡ length (converted utf16 (form_of target) text.now) }
-{
-    let mut rest = text;
-    let mut total: usize = 0;
-    while let Some(p) = utf16::point(rest) {
-        total += convert_point::places(target, p.number);
-        rest = &rest[p.size..];
-    }
-    total
-}
 
 // How many bytes the code points take that begin in front of a place.
 fn count_segments(text: &[u16], stop: usize) -> Part
@@ -166,34 +151,6 @@ fn write_bytes(text: &[u16], out: &mut [u8]) -> usize
     done
 }
 
-// The text as units, U+FFFD for each damage.
-fn write_units(text: &[u16], out: &mut [u16]) -> usize
-    requires { length (converted utf16 utf16 text.now) ≤ length out.old }
-    ensures { Puts (converted utf16 utf16 text.now) out.old out.new result }
-{
-    let mut rest = text;
-    let mut done: usize = 0;
-    while let Some(p) = utf16::point(rest) {
-        done += convert_point::put_units(&mut out[done..], p.number);
-        rest = &rest[p.size..];
-    }
-    done
-}
-
-// The text as code points, U+FFFD for each damage.
-fn write_points(text: &[u16], out: &mut [u32]) -> usize
-    requires { length (converted utf16 code_points text.now) ≤ length out.old }
-    ensures { Puts (converted utf16 code_points text.now) out.old out.new result }
-{
-    let mut rest = text;
-    let mut done: usize = 0;
-    while let Some(p) = utf16::point(rest) {
-        done += convert_point::put_point(&mut out[done..], p.number);
-        rest = &rest[p.size..];
-    }
-    done
-}
-
 // The text as bytes, with U+FFFD for each damage.
 pub fn repair_to_bytes(text: &[u16], out: &mut [u8]) -> Result<usize, Refusal>
     ensures { Writes
@@ -228,28 +185,7 @@ pub fn repair(text: &[u16], out: &mut [u16]) -> Result<usize, Refusal>
     if Decoder::LIMIT < text.len() {
         return Err(Refusal::OverLimit);
     }
-    let units = need(text, Target::Units);
-    if out.len() < units {
-        return Err(Refusal::NoRoom { needed: units });
-    }
-    Ok(write_units(text, out))
-}
-
-// The text as code points, or its need where the output has no room for them.
-fn fit_points(text: &[u16], out: &mut [u32]) -> Result<usize, Refusal>
-    requires { length text.now ≤ limit }
-    ensures { Writes
-        (roomed (length out.old) (converted utf16 code_points text.now))
-        (converted utf16 code_points text.now)
-        out.old
-        out.new
-        result }
-{
-    let points = need(text, Target::Points);
-    if out.len() < points {
-        return Err(Refusal::NoRoom { needed: points });
-    }
-    Ok(write_points(text, out))
+    convert_point::fit::<u16, u16>(text, out)
 }
 
 // The text as bytes; strict, so that damage is refused.
@@ -275,5 +211,5 @@ pub fn to_points(text: &[u16], out: &mut [u32]) -> Result<usize, Refusal>
         result }
 {
     utf16_check::check(text)?;
-    fit_points(text, out)
+    convert_point::fit::<u16, u32>(text, out)
 }

@@ -2,6 +2,8 @@
 pub mod FourAtMost
 -- One code point at the start of an output
 pub mod PointWritten
+-- The numbers of a part that is lent, and of what comes back, are that part of the numbers
+pub mod NumbersOfParts
 -- A walk that keeps the rest of its text: how far it has come, and the code point that it meets there, over any form
 pub mod RestOfText
 -- A walk over a text in passes, of which each reads some of the text and counts or writes what that takes, over any forms

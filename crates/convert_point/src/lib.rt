@@ -1,5 +1,5 @@
-// A code point in each form: how many places it takes, and its elements at the start of an output; and the most places that a
-// text can take.
+// A code point in each form: how many places it takes, and its elements at the start of an output; the most places that a text can
+// take; and a whole text of any form in any other.
 #![tactic(auto)]
 
 ghost use Rattle.std.specs.Prelude.{◌≡◌, length};
@@ -11,6 +11,12 @@ ghost use Rattle.convert_point.specs.Puts.{fitting, Puts};
 ghost use Rattle.convert_point.specs.Room.{places_each, most_of};
 
 use terms::Decoder;
+
+mod element;
+mod whole;
+
+pub use element::Element;
+pub use whole::{fit, need, write};
 
 // The form that a text has, or into which it is converted.
 #[derive(Clone, Copy)]
