@@ -25,25 +25,6 @@ fn search(numbers: &[u16], c: u32) -> Option<usize>
     numbers.iter().position(|n| *n as u32 == c)
 }
 
-// The place of a number in a page, where it stands nowhere twice: mostly that of its low byte, 0xA0 behind for Cyrillic, or a high one.
-fn place_of(numbers: &[u16; 256], c: u32) -> Option<usize>
-    requires { IsPage numbers.now }
-    ensures { result ≡ place_in c numbers.now }
-{
-    let low = (c % 256) as usize;
-    if numbers[low] as u32 == c {
-        return Some(low);
-    }
-    let far = (low + 0xA0) % 256;
-    if numbers[far] as u32 == c {
-        return Some(far);
-    }
-    if let Some(n) = search(&numbers[0xA0..], c) {
-        return Some(0xA0 + n);
-    }
-    search(numbers, c)
-}
-
 // So many bytes at the start are below 0x80, by whole blocks; so few that what was tested is still near when it is copied.
 fn near_run(text: &[u8]) -> usize
     ensures { (result ≤ length text.now) × Ascii text.now result }
@@ -52,126 +33,156 @@ fn near_run(text: &[u8]) -> usize
     ascii::run(&text[..near])
 }
 
-// Code points that the page has, one after the other, until 64 bytes are passed: how many bytes they take.
-fn held_some(text: &[u8], numbers: &[u16; 256]) -> usize
-    requires page { IsPage numbers.now }
-    requires text_nonzero { (0 < length text.now) × (damages bytes text.now ≡ []) }
-    ensures { Held numbers.now text.now result }
-{
-    let stop = text.len().min(64);
-    let mut passed: usize = 0;
-    while passed < stop {
-        let p = crate::points::first_point(&text[passed..]);
-        let Some(_) = place_of(numbers, p.number) else {
-            return passed;
-        };
-        let size = p.size;
-        passed += size;
-    }
-    passed
+// The numbers of a page: no two are alike, and the bytes below 0x80 are their own.
+#[derive(Drop)]
+pub(crate) struct Table {
+    numbers: [u16; 256],
+    ghost is_page: { IsPage numbers },
+    ghost keeps: { Keeps numbers },
 }
 
-// The same, or a long run of bytes below 0x80: a page has them all.
-fn held_stride(text: &[u8], numbers: &[u16; 256]) -> usize
-    requires page { IsPage numbers.now × Keeps numbers.now }
-    requires text_nonzero { (0 < length text.now) × (damages bytes text.now ≡ []) }
-    ensures { Held numbers.now text.now result }
-{
-    let n = near_run(text);
-    if 0 < n {
-        return n;
-    }
-    held_some(text, numbers)
-}
-
-// How many bytes come before the first code point that the page lacks; all of them where it lacks none.
-fn held(text: &[u8], numbers: &[u16; 256]) -> usize
-    requires page { IsPage numbers.now × Keeps numbers.now }
-    requires text_value { damages bytes text.now ≡ [] }
-    ensures { result ≡ held_up_to numbers.now text.now }
-{
-    let mut at: usize = 0;
-    while at < text.len() {
-        let n = held_stride(&text[at..], numbers);
-        if n == 0 {
-            return at;
+impl Table {
+    // That of one of the pages.
+    fn of(page: Page) -> Table
+        ensures { result.numbers ≡ table_of page }
+    {
+        Table {
+            numbers: page::numbers(page),
         }
-        at += n;
     }
-    at
-}
 
-// The places of code points, one after the other, until 64 bytes are passed.
-fn put_some(text: &[u8], numbers: &[u16; 256], out: &mut [u8]) -> Reach
-    requires page { IsPage numbers.now }
-    requires text_nonzero { (0 < length text.now) × Fits numbers.now text.now }
-    requires text_in_bounds { length (converted utf8 (paged numbers.now) text.now) ≤ length out.old }
-    ensures { Places numbers.now text.now out.old out.new result.passed result.put }
-{
-    let stop = text.len().min(64);
-    let mut at: usize = 0;
-    let mut put: usize = 0;
-    while at < stop {
-        let p = crate::points::first_point(&text[at..]);
-        let place = place_of(numbers, p.number).unwrap();
-        out[put] = place as u8;
-        put += 1;
-        at += p.size;
+    // The place of a number in a page, where it stands nowhere twice: mostly that of its low byte, 0xA0 behind for Cyrillic, or a high one.
+    fn place_of(&self, c: u32) -> Option<usize>
+        ensures { result ≡ place_in c self.now.numbers }
+    {
+        let low = (c % 256) as usize;
+        if self.numbers[low] as u32 == c {
+            return Some(low);
+        }
+        let far = (low + 0xA0) % 256;
+        if self.numbers[far] as u32 == c {
+            return Some(far);
+        }
+        if let Some(n) = search(&self.numbers[0xA0..], c) {
+            return Some(0xA0 + n);
+        }
+        search(&self.numbers, c)
     }
-    Reach { passed: at, put }
-}
 
-// The same, or a long run of bytes below 0x80, which are copied.
-fn put_stride(text: &[u8], numbers: &[u16; 256], out: &mut [u8]) -> Reach
-    requires page { IsPage numbers.now × Keeps numbers.now }
-    requires text_nonzero { (0 < length text.now) × Fits numbers.now text.now }
-    requires text_in_bounds { length (converted utf8 (paged numbers.now) text.now) ≤ length out.old }
-    ensures { Places numbers.now text.now out.old out.new result.passed result.put }
-{
-    let n = near_run(text);
-    if 0 < n {
-        copy::copy(&text[..n], out);
-        return Reach { passed: n, put: n };
+    // Code points that the page has, one after the other, until 64 bytes are passed: how many bytes they take.
+    fn held_some(&self, text: &[u8]) -> usize
+        requires text_nonzero { (0 < length text.now) × (damages bytes text.now ≡ []) }
+        ensures { Held self.now.numbers text.now result }
+    {
+        let stop = text.len().min(64);
+        let mut passed: usize = 0;
+        while passed < stop {
+            let p = crate::points::first_point(&text[passed..]);
+            let Some(_) = self.place_of(p.number) else {
+                return passed;
+            };
+            let size = p.size;
+            passed += size;
+        }
+        passed
     }
-    put_some(text, numbers, out)
-}
 
-// The text in the page, at the start of an output that has room for it.
-fn put(text: &[u8], numbers: &[u16; 256], out: &mut [u8]) -> usize
-    requires page { IsPage numbers.now × Keeps numbers.now }
-    requires fits { Fits numbers.now text.now }
-    requires text_in_bounds { length (converted utf8 (paged numbers.now) text.now) ≤ length out.old }
-    ensures { Puts (converted utf8 (paged numbers.now) text.now) out.old out.new result }
-{
-    let mut at: usize = 0;
-    let mut done: usize = 0;
-    while at < text.len() {
-        let s = put_stride(&text[at..], numbers, &mut out[done..]);
-        at += s.passed;
-        done += s.put;
+    // The same, or a long run of bytes below 0x80: a page has them all.
+    fn held_stride(&self, text: &[u8]) -> usize
+        requires text_nonzero { (0 < length text.now) × (damages bytes text.now ≡ []) }
+        ensures { Held self.now.numbers text.now result }
+    {
+        let n = near_run(text);
+        if 0 < n {
+            return n;
+        }
+        self.held_some(text)
     }
-    done
-}
 
-// The text in the page, which has each of its code points; refused where the output has no room for them.
-fn write_held(text: &[u8], numbers: &[u16; 256], out: &mut [u8]) -> Result<usize, Refusal>
-    requires page { IsPage numbers.now × Keeps numbers.now }
-    requires fits { Fits numbers.now text.now }
-    ensures { Writes
-        (roomed (length out.old) (converted utf8 (paged numbers.now) text.now))
-        (converted utf8 (paged numbers.now) text.now)
-        out.old
-        out.new
-        result }
-{
-    if text.len() <= out.len() {
-        return Ok(put(text, numbers, out));
+    // How many bytes come before the first code point that the page lacks; all of them where it lacks none.
+    fn held(&self, text: &[u8]) -> usize
+        requires text_value { damages bytes text.now ≡ [] }
+        ensures { result ≡ held_up_to self.now.numbers text.now }
+    {
+        let mut at: usize = 0;
+        while at < text.len() {
+            let n = self.held_stride(&text[at..]);
+            if n == 0 {
+                return at;
+            }
+            at += n;
+        }
+        at
     }
-    let places = crate::points::need(text);
-    if out.len() < places {
-        return Err(Refusal::NoRoom { needed: places });
+
+    // The places of code points, one after the other, until 64 bytes are passed.
+    fn put_some(&self, text: &[u8], out: &mut [u8]) -> Reach
+        requires text_nonzero { (0 < length text.now) × Fits self.now.numbers text.now }
+        requires text_in_bounds { length (converted utf8 (paged self.now.numbers) text.now) ≤ length out.old }
+        ensures { Places self.now.numbers text.now out.old out.new result.passed result.put }
+    {
+        let stop = text.len().min(64);
+        let mut at: usize = 0;
+        let mut put: usize = 0;
+        while at < stop {
+            let p = crate::points::first_point(&text[at..]);
+            let place = self.place_of(p.number).unwrap();
+            out[put] = place as u8;
+            put += 1;
+            at += p.size;
+        }
+        Reach { passed: at, put }
     }
-    Ok(put(text, numbers, out))
+
+    // The same, or a long run of bytes below 0x80, which are copied.
+    fn put_stride(&self, text: &[u8], out: &mut [u8]) -> Reach
+        requires text_nonzero { (0 < length text.now) × Fits self.now.numbers text.now }
+        requires text_in_bounds { length (converted utf8 (paged self.now.numbers) text.now) ≤ length out.old }
+        ensures { Places self.now.numbers text.now out.old out.new result.passed result.put }
+    {
+        let n = near_run(text);
+        if 0 < n {
+            copy::copy(&text[..n], out);
+            return Reach { passed: n, put: n };
+        }
+        self.put_some(text, out)
+    }
+
+    // The text in the page, at the start of an output that has room for it.
+    fn put(&self, text: &[u8], out: &mut [u8]) -> usize
+        requires fits { Fits self.now.numbers text.now }
+        requires text_in_bounds { length (converted utf8 (paged self.now.numbers) text.now) ≤ length out.old }
+        ensures { Puts (converted utf8 (paged self.now.numbers) text.now) out.old out.new result }
+    {
+        let mut at: usize = 0;
+        let mut done: usize = 0;
+        while at < text.len() {
+            let s = self.put_stride(&text[at..], &mut out[done..]);
+            at += s.passed;
+            done += s.put;
+        }
+        done
+    }
+
+    // The text in the page, which has each of its code points; refused where the output has no room for them.
+    fn write_held(&self, text: &[u8], out: &mut [u8]) -> Result<usize, Refusal>
+        requires fits { Fits self.now.numbers text.now }
+        ensures { Writes
+            (roomed (length out.old) (converted utf8 (paged self.now.numbers) text.now))
+            (converted utf8 (paged self.now.numbers) text.now)
+            out.old
+            out.new
+            result }
+    {
+        if text.len() <= out.len() {
+            return Ok(self.put(text, out));
+        }
+        let places = crate::points::need(text);
+        if out.len() < places {
+            return Err(Refusal::NoRoom { needed: places });
+        }
+        Ok(self.put(text, out))
+    }
 }
 
 // The text in a page; the first code point that the page lacks is refused, and then an output that has no room.
@@ -185,10 +196,10 @@ pub(crate) fn write(text: &[u8], page: Page, out: &mut [u8]) -> Result<usize, Re
         out.new
         result }
 {
-    let numbers = page::numbers(page);
-    let at = held(text, &numbers);
+    let table = Table::of(page);
+    let at = table.held(text);
     if at < text.len() {
         return Err(Refusal::NotInPage { offset: at });
     }
-    write_held(text, &numbers, out)
+    table.write_held(text, out)
 }

@@ -12,7 +12,6 @@ use Rattle.utf8.specs.Scalar.{utf8}
 use Rattle.page.specs.Tables.{table_of}
 use Rattle.page.specs.Paged.{paged}
 use Rattle.page.specs.Lacking.{lacking, held_up_to, held_by}
-use Rattle.page.proofs.ThreePages.{is_page_lem, page_keeps}
 use Rattle.convert_from_utf8.proofs.HeldWalk.{held-short, held_all}
 use Rattle.convert_from_utf8.proofs.pages.write.Goals.{After-held-at, Else-at-text}
 use Rattle.convert_from_utf8.proofs.pages.write.Goals as goal
@@ -21,7 +20,7 @@ use Rattle.convert_from_utf8.proofs.pages.write.Goals as goal
 reached : (c : After-held-at)
     → let a = c.args in
     c.held-at.result ≡ held_up_to (table_of a.page) a.text.now
-reached c = rw c.numbers-numbers.ensures at c.held-at.ensures
+reached c = rw c.of-table.ensures at c.held-at.ensures
 
 -- it lacks nothing
 nothing : (c : Else-at-text)
@@ -34,10 +33,7 @@ nothing c reached =
 
 pub held-at-requires : goal.held-at-requires
 held-at-requires c =
-    record {
-      page = rw c.numbers-numbers.ensures (is_page_lem c.args.page, page_keeps c.args.page);
-      text_value = c.requires;
-    }
+    record { text_value = c.requires }
 
 pub returns-then-at-text : goal.returns-then-at-text
 returns-then-at-text c =
@@ -52,12 +48,11 @@ returns-then-at-text c =
 pub write_held-requires : goal.write_held-requires
 write_held-requires c =
     let r = reached (goal.at.write_held-requires c).After-held-at in
-    rw c.numbers-numbers.ensures record {
-      page = (is_page_lem c.args.page, page_keeps c.args.page);
+    rw c.of-table.ensures record {
       fits = (c.requires, nothing (goal.at.write_held-requires c).Else-at-text r);
     }
 
 pub returns : goal.returns
 returns c =
     let r = reached (goal.at.returns c).After-held-at in
-    rw (nothing (goal.at.returns c).Else-at-text r) (rw c.numbers-numbers.ensures at c.write_held.ensures)
+    rw (nothing (goal.at.returns c).Else-at-text r) (rw c.of-table.ensures at c.write_held.ensures)

@@ -9,29 +9,28 @@ use Rattle.utf8.specs.Scalar.{utf8}
 use Rattle.page.specs.Paged.{paged}
 use Rattle.convert_point.proofs.WalkInPasses.{rest-room, wrote-pass}
 use Rattle.convert_from_utf8.proofs.PlacesWalk.{places_behind}
-use Rattle.convert_from_utf8.proofs.pages.put.Goals.{After-put_stride-s}
-use Rattle.convert_from_utf8.proofs.pages.put.Goals as goal
+use Rattle.convert_from_utf8.proofs.pages.Table.put.Goals.{After-put_stride-s}
+use Rattle.convert_from_utf8.proofs.pages.Table.put.Goals as goal
 
 pub loop-at-init : goal.loop-at-init
-loop-at-init c = (wrote-start utf8 (paged c.args.numbers.now) c.args.text.now c.args.out.now, c.requires.fits)
+loop-at-init c = (wrote-start utf8 (paged c.args.self.now.numbers) c.args.text.now c.args.out.now, c.requires.fits)
 
 pub put_stride-s-requires : goal.put_stride-s-requires
 put_stride-s-requires c =
     let t = c.args.text.now in
     let at = c.loop-at.at in
     record {
-      page = c.requires.page;
       text_nonzero = (omega (arith, ap length (part_is t at) ∙ length-drop at t, c.loop-at-test.true), rw (part_is t at) c.loop-at.invariant.1);
-      text_in_bounds = rest-room utf8 (paged c.args.numbers.now) t c.args.out.now c.loop-at.out at c.loop-at.done c.loop-at.invariant.0 c.requires.text_in_bounds;
+      text_in_bounds = rest-room utf8 (paged c.args.self.now.numbers) t c.args.out.now c.loop-at.out at c.loop-at.done c.loop-at.invariant.0 c.requires.text_in_bounds;
     }
 
 -- what is written then
 after : (c : After-put_stride-s)
     → let a = c.args in
-    Wrote utf8 (paged a.numbers.now) a.text.now a.out.now (back c.loop-at.out c.loop-at.done c.put_stride-s.new.out)
+    Wrote utf8 (paged a.self.now.numbers) a.text.now a.out.now (back c.loop-at.out c.loop-at.done c.put_stride-s.new.out)
     (c.loop-at.at + c.put_stride-s.result.passed) (c.loop-at.done + c.put_stride-s.result.put)
 after c =
-    wrote-pass utf8 (paged c.args.numbers.now) c.args.text.now c.args.out.now c.loop-at.out c.loop-at.at c.loop-at.done c.loop-at.invariant.0 c.requires.text_in_bounds
+    wrote-pass utf8 (paged c.args.self.now.numbers) c.args.text.now c.args.out.now c.loop-at.out c.loop-at.at c.loop-at.done c.loop-at.invariant.0 c.requires.text_in_bounds
     c.put_stride-s.new.out _ _ c.put_stride-s.ensures.passes
 
 pub overflow_add-at : goal.overflow_add-at
@@ -52,7 +51,7 @@ loop-at-smaller c =
 pub loop-at-preserved : goal.loop-at-preserved
 loop-at-preserved c =
     let a = c.args in
-    (after (goal.at.loop-at-preserved c).After-put_stride-s, places_behind a.numbers.now a.text.now c.loop-at.at _ _ _ _ c.put_stride-s.ensures)
+    (after (goal.at.loop-at-preserved c).After-put_stride-s, places_behind a.self.now.numbers a.text.now c.loop-at.at _ _ _ _ c.put_stride-s.ensures)
 
 pub shape_of-out : goal.shape_of-out
 shape_of-out c = c.loop-at.invariant.0.long
@@ -60,5 +59,5 @@ shape_of-out c = c.loop-at.invariant.0.long
 pub returns : goal.returns
 returns c =
     let a = c.args in
-    let e = wrote-end utf8 (paged a.numbers.now) a.text.now a.out.now c.loop-at.out c.loop-at.at c.loop-at.done c.loop-at.invariant.0 c.loop-at-test.false in
+    let e = wrote-end utf8 (paged a.self.now.numbers) a.text.now a.out.now c.loop-at.out c.loop-at.at c.loop-at.done c.loop-at.invariant.0 c.loop-at-test.false in
     record { count = e.0; output = e.1 }

@@ -8,11 +8,11 @@ use Rattle.utf8.specs.Scalar.{utf8}
 use Rattle.utf8.proofs.FaithfulForm.{utf8-faithful}
 use Rattle.convert_from_utf8.proofs.PlaceFound.{has-place, lacks-place}
 use Rattle.convert_from_utf8.proofs.HeldWalk.{reached-start, reached-next, met-lacking}
-use Rattle.convert_from_utf8.proofs.pages.held_some.Goals.{After-first_point-p}
-use Rattle.convert_from_utf8.proofs.pages.held_some.Goals as goal
+use Rattle.convert_from_utf8.proofs.pages.Table.held_some.Goals.{After-first_point-p}
+use Rattle.convert_from_utf8.proofs.pages.Table.held_some.Goals as goal
 
 pub loop-passed-init : goal.loop-passed-init
-loop-passed-init c = reached-start c.args.numbers.now c.args.text.now c.requires.text_nonzero.1
+loop-passed-init c = reached-start c.args.self.now.numbers c.args.text.now c.requires.text_nonzero.1
 
 pub first_point-p-requires : goal.first_point-p-requires
 first_point-p-requires c =
@@ -26,12 +26,9 @@ here : (c : After-first_point-p)
 here c =
     met utf8-faithful c.args.text.now c.loop-passed.passed (omega (arith, c.loop-passed-test.true, c.min-stop.ensures)) _ _ c.first_point-p.ensures
 
-pub place_of-requires : goal.place_of-requires
-place_of-requires c = c.requires.page
-
 pub returns-in_default : goal.returns-in_default
 returns-in_default c =
-    let table = c.args.numbers.now in
+    let table = c.args.self.now.numbers in
     record {
       reached = c.loop-passed.invariant;
       ended = λ e other at. rw e at (met-lacking table c.args.text.now c.loop-passed.passed _ _ (here (goal.at.returns-in_default c).After-first_point-p) (lacks-place c.first_point-p.result.number table (sym c.in_default.is ∙ c.place_of.ensures)) other at);
@@ -46,7 +43,7 @@ loop-passed-smaller c = let m = here (goal.at.loop-passed-smaller c).After-first
 
 pub loop-passed-preserved : goal.loop-passed-preserved
 loop-passed-preserved c =
-    let table = c.args.numbers.now in
+    let table = c.args.self.now.numbers in
     reached-next table c.args.text.now c.loop-passed.passed _ _ (here (goal.at.loop-passed-preserved c).After-first_point-p) c.loop-passed.invariant
     (has-place c.first_point-p.result.number table _ (sym c.in-Some.is ∙ c.place_of.ensures))
 
