@@ -7,32 +7,32 @@ ghost use Rattle.terms.specs.Limits.{limit};
 ghost use Rattle.terms.specs.Writing.{Writes, roomed, repair_says};
 ghost use Rattle.utf8.specs.Scalar.{utf8};
 ghost use Rattle.page.specs.Tables.{table_of};
-ghost use Rattle.page.specs.Paged.{paged, Keeps};
-ghost use Rattle.convert_from_page.specs.Inside.Units.{AreUnits};
+ghost use Rattle.page.specs.Paged.{paged};
 
+use crate::numbers::Table;
 use page::Page;
 use terms::{Decoder, Refusal};
 
 mod numbers;
 
 // The bytes of the text's numbers; refused where the output has no room for them.
-fn fit(text: &[u8], numbers: &[u16; 256], out: &mut [u8]) -> Result<usize, Refusal>
-    requires { (length text.now ≤ limit) × Keeps numbers.now × AreUnits numbers.now }
+fn fit(text: &[u8], table: &Table, out: &mut [u8]) -> Result<usize, Refusal>
+    requires { length text.now ≤ limit }
     ensures { Writes
-        (roomed (length out.old) (converted (paged numbers.now) utf8 text.now))
-        (converted (paged numbers.now) utf8 text.now)
+        (roomed (length out.old) (converted (paged table.now.numbers) utf8 text.now))
+        (converted (paged table.now.numbers) utf8 text.now)
         out.old
         out.new
         result }
 {
     if 3 * text.len() <= out.len() {
-        return Ok(crate::numbers::put(text, numbers, out));
+        return Ok(table.put(text, out));
     }
-    let bytes = crate::numbers::need(text, numbers);
+    let bytes = table.need(text);
     if out.len() < bytes {
         return Err(Refusal::NoRoom { needed: bytes });
     }
-    Ok(crate::numbers::put(text, numbers, out))
+    Ok(table.put(text, out))
 }
 
 // A text of a page as bytes. No byte is refused.
@@ -47,6 +47,5 @@ pub fn to_bytes(text: &[u8], page: Page, out: &mut [u8]) -> Result<usize, Refusa
     if Decoder::LIMIT < text.len() {
         return Err(Refusal::OverLimit);
     }
-    let numbers = page::numbers(page);
-    fit(text, &numbers, out)
+    fit(text, &Table::of(page), out)
 }

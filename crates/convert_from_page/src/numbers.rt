@@ -1,46 +1,22 @@
 // The numbers of a text's bytes, by a table of a page: how many UTF-8 bytes they take, and these at the start of an output.
-ghost use Rattle.std.specs.Prelude.{◌≡◌, ◌≤◌, ◌<◌, min, length, get_or};
+ghost use Rattle.std.specs.Prelude.{◌≡◌, ◌≤◌, ◌<◌, length, get_or};
 ghost use Rattle.terms.specs.Form.{converted};
 ghost use Rattle.terms.specs.Limits.{limit};
 ghost use Rattle.utf8.specs.Scalar.{sequence, utf8};
+ghost use Rattle.page.specs.Tables.{table_of};
 ghost use Rattle.page.specs.Paged.{paged, Keeps};
 ghost use Rattle.convert_point.specs.Puts.{Puts};
 ghost use Rattle.convert_point.specs.Inside.Passes.{PassesTo};
+ghost use Rattle.convert_from_page.specs.Inside.Units.{AreUnits};
 ghost use Rattle.convert_from_page.specs.Inside.Store.{first_of, Stores};
+
+use page::Page;
 
 // How far a stride went: so many bytes are passed over, and so many places written.
 #[derive(Clone, Copy)]
 pub(crate) struct Reach {
     pub passed: usize,
     pub put: usize,
-}
-
-// The lower of two numbers.
-fn lower(a: usize, b: usize) -> usize
-    ensures { result ≡ min a b }
-{
-    if a < b { a } else { b }
-}
-
-// The number of a byte.
-fn number(numbers: &[u16; 256], b: u8) -> u16
-    ensures { result ≡ get_or numbers.now b 0 }
-{
-    numbers[b as usize]
-}
-
-// How many bytes the numbers of a text take.
-pub(crate) fn need(text: &[u8], numbers: &[u16; 256]) -> usize
-    requires { length text.now ≤ limit }
-    ensures { result ≡ length (converted (paged numbers.now) utf8 text.now) }
-{
-    let mut at: usize = 0;
-    let mut total: usize = 0;
-    while at < text.len() {
-        total += convert_point::bytes_of(number(numbers, text[at]) as u32);
-        at += 1;
-    }
-    total
 }
 
 // The first byte of a number below 0x800.
@@ -76,50 +52,86 @@ fn put_two(n: u16, out: &mut [u8]) -> usize
     long(n)
 }
 
-// The bytes of the numbers of some bytes; those of the last one exactly, so that no place behind them changes.
-fn put_some(text: &[u8], numbers: &[u16; 256], out: &mut [u8]) -> usize
-    requires text_nonzero { 0 < length text.now }
-    requires text_in_bounds { length (converted (paged numbers.now) utf8 text.now) ≤ length out.old }
-    ensures { Puts (converted (paged numbers.now) utf8 text.now) out.old out.new result }
-{
-    let mut at: usize = 0;
-    let mut done: usize = 0;
-    while at + 2 <= text.len() {
-        done += put_two(number(numbers, text[at]), &mut out[done..]);
-        at += 1;
-    }
-    done + convert_point::put_bytes(&mut out[done..], number(numbers, text[at]) as u32)
+// The number of each byte of a page: those below 0x80 are their own, and none takes more than three bytes.
+#[derive(Drop)]
+pub(crate) struct Table {
+    numbers: [u16; 256],
+    ghost keeps: { Keeps numbers },
+    ghost are_units: { AreUnits numbers },
 }
 
-// A run of bytes below 0x80 as it is, or some bytes by their numbers. What was tested is still in the cache when it is copied.
-fn stride(text: &[u8], numbers: &[u16; 256], out: &mut [u8]) -> Reach
-    requires text_nonzero { (0 < length text.now) × Keeps numbers.now }
-    requires text_in_bounds { length (converted (paged numbers.now) utf8 text.now) ≤ length out.old }
-    ensures { PassesTo (paged numbers.now) utf8 text.now out.old out.new result.passed result.put }
-{
-    let near = lower(text.len(), 4096);
-    let n = ascii::run(&text[..near]);
-    if 0 < n {
-        copy::copy(&text[..n], out);
-        return Reach { passed: n, put: n };
+impl Table {
+    // That of one of the pages.
+    pub(crate) fn of(page: Page) -> Table
+        ensures { result.numbers ≡ table_of page }
+    {
+        Table {
+            numbers: page::numbers(page),
+        }
     }
-    let m = lower(text.len(), 64);
-    let put = put_some(&text[..m], numbers, out);
-    Reach { passed: m, put }
-}
 
-// The bytes of the numbers of a text, at the start of an output that has room for them.
-pub(crate) fn put(text: &[u8], numbers: &[u16; 256], out: &mut [u8]) -> usize
-    requires keeps { Keeps numbers.now }
-    requires text_in_bounds { length (converted (paged numbers.now) utf8 text.now) ≤ length out.old }
-    ensures { Puts (converted (paged numbers.now) utf8 text.now) out.old out.new result }
-{
-    let mut at: usize = 0;
-    let mut done: usize = 0;
-    while at < text.len() {
-        let s = stride(&text[at..], numbers, &mut out[done..]);
-        at += s.passed;
-        done += s.put;
+    // The number of a byte.
+    fn number(&self, b: u8) -> u16
+        ensures { result ≡ get_or self.now.numbers b 0 }
+    {
+        self.numbers[b as usize]
     }
-    done
+
+    // How many bytes the numbers of a text take.
+    pub(crate) fn need(&self, text: &[u8]) -> usize
+        requires { length text.now ≤ limit }
+        ensures { result ≡ length (converted (paged self.now.numbers) utf8 text.now) }
+    {
+        let mut total: usize = 0;
+        for &b in text {
+            total += convert_point::bytes_of(self.number(b) as u32);
+        }
+        total
+    }
+
+    // The bytes of the numbers of some bytes; those of the last one exactly, so that no place behind them changes.
+    fn put_some(&self, text: &[u8], out: &mut [u8]) -> usize
+        requires text_nonzero { 0 < length text.now }
+        requires text_in_bounds { length (converted (paged self.now.numbers) utf8 text.now) ≤ length out.old }
+        ensures { Puts (converted (paged self.now.numbers) utf8 text.now) out.old out.new result }
+    {
+        let last = text.len() - 1;
+        let mut done: usize = 0;
+        for &b in &text[..last] {
+            done += put_two(self.number(b), &mut out[done..]);
+        }
+        done + convert_point::put_bytes(&mut out[done..], self.number(text[last]) as u32)
+    }
+
+    // A run of bytes below 0x80 as it is, or some bytes by their numbers. What was tested is still in the cache when it is copied.
+    fn stride(&self, text: &[u8], out: &mut [u8]) -> Reach
+        requires text_nonzero { 0 < length text.now }
+        requires text_in_bounds { length (converted (paged self.now.numbers) utf8 text.now) ≤ length out.old }
+        ensures { PassesTo (paged self.now.numbers) utf8 text.now out.old out.new result.passed result.put }
+    {
+        let near = text.len().min(4096);
+        let n = ascii::run(&text[..near]);
+        if 0 < n {
+            copy::copy(&text[..n], out);
+            return Reach { passed: n, put: n };
+        }
+        let m = text.len().min(64);
+        let put = self.put_some(&text[..m], out);
+        Reach { passed: m, put }
+    }
+
+    // The bytes of the numbers of a text, at the start of an output that has room for them.
+    pub(crate) fn put(&self, text: &[u8], out: &mut [u8]) -> usize
+        requires text_in_bounds { length (converted (paged self.now.numbers) utf8 text.now) ≤ length out.old }
+        ensures { Puts (converted (paged self.now.numbers) utf8 text.now) out.old out.new result }
+    {
+        let mut at: usize = 0;
+        let mut done: usize = 0;
+        while at < text.len() {
+            let s = self.stride(&text[at..], &mut out[done..]);
+            at += s.passed;
+            done += s.put;
+        }
+        done
+    }
 }

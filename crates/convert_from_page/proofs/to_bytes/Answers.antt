@@ -5,8 +5,6 @@ use Rattle.terms.proofs.AnswersWritten.{repair-over, repair-roomed}
 use Rattle.utf8.specs.Scalar.{utf8}
 use Rattle.page.specs.Tables.{table_of}
 use Rattle.page.specs.Paged.{paged}
-use Rattle.page.proofs.ThreePages.{page_keeps}
-use Rattle.convert_from_page.proofs.UnitsOfPages.{are_units}
 use Rattle.convert_from_page.proofs.to_bytes.Goals as goal
 
 pub returns-then-text-gt-LIMIT : goal.returns-then-text-gt-LIMIT
@@ -14,13 +12,8 @@ returns-then-text-gt-LIMIT c =
     let a = c.args in
     repair-over a.text.now (converted (paged (table_of a.page)) utf8 a.text.now) a.out.now (omega (arith, c.if-text-gt-LIMIT.true))
 
-pub fit-requires : goal.fit-requires
-fit-requires c =
-    let page = c.args.page in
-    (omega (arith, c.if-text-gt-LIMIT.false), rw c.numbers-numbers.ensures (page_keeps page), rw c.numbers-numbers.ensures (are_units page))
-
 pub returns : goal.returns
 returns c =
     let a = c.args in
     repair-roomed a.text.now (converted (paged (table_of a.page)) utf8 a.text.now) a.out.now c.fit.new.out c.fit.result (omega (arith, c.if-text-gt-LIMIT.false))
-    (rw c.numbers-numbers.ensures at c.fit.ensures)
+    (rw c.of.ensures at c.fit.ensures)

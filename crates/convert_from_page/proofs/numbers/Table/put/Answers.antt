@@ -8,28 +8,28 @@ use Rattle.terms.proofs.WalkWrites.{back, Wrote, wrote-start, wrote-end}
 use Rattle.utf8.specs.Scalar.{utf8}
 use Rattle.page.specs.Paged.{paged}
 use Rattle.convert_point.proofs.WalkInPasses.{rest-room, wrote-pass}
-use Rattle.convert_from_page.proofs.numbers.put.Goals.{After-stride-s}
-use Rattle.convert_from_page.proofs.numbers.put.Goals as goal
+use Rattle.convert_from_page.proofs.numbers.Table.put.Goals.{After-stride-s}
+use Rattle.convert_from_page.proofs.numbers.Table.put.Goals as goal
 
 pub loop-at-init : goal.loop-at-init
-loop-at-init c = let a = c.args in wrote-start (paged a.numbers.now) utf8 a.text.now a.out.now
+loop-at-init c = let a = c.args in wrote-start (paged a.self.now.numbers) utf8 a.text.now a.out.now
 
 pub stride-s-requires : goal.stride-s-requires
 stride-s-requires c =
     let t = c.args.text.now in
     let at = c.loop-at.at in
     record {
-      text_nonzero = (omega (arith, ap length (part_is t at) ∙ length-drop at t, c.loop-at-test.true), c.requires.keeps);
-      text_in_bounds = rest-room (paged c.args.numbers.now) utf8 t c.args.out.now c.loop-at.out at c.loop-at.done c.loop-at.invariant c.requires.text_in_bounds;
+      text_nonzero = omega (arith, ap length (part_is t at) ∙ length-drop at t, c.loop-at-test.true);
+      text_in_bounds = rest-room (paged c.args.self.now.numbers) utf8 t c.args.out.now c.loop-at.out at c.loop-at.done c.loop-at.invariant c.requires.text_in_bounds;
     }
 
 -- what is written then
 after : (c : After-stride-s)
     → let a = c.args in
-    Wrote (paged a.numbers.now) utf8 a.text.now a.out.now (back c.loop-at.out c.loop-at.done c.stride-s.new.out)
+    Wrote (paged a.self.now.numbers) utf8 a.text.now a.out.now (back c.loop-at.out c.loop-at.done c.stride-s.new.out)
     (c.loop-at.at + c.stride-s.result.passed) (c.loop-at.done + c.stride-s.result.put)
 after c =
-    wrote-pass (paged c.args.numbers.now) utf8 c.args.text.now c.args.out.now c.loop-at.out c.loop-at.at c.loop-at.done c.loop-at.invariant c.requires.text_in_bounds
+    wrote-pass (paged c.args.self.now.numbers) utf8 c.args.text.now c.args.out.now c.loop-at.out c.loop-at.at c.loop-at.done c.loop-at.invariant c.requires.text_in_bounds
     c.stride-s.new.out _ _ c.stride-s.ensures
 
 pub overflow_add-at : goal.overflow_add-at
@@ -53,5 +53,5 @@ shape_of-out c = c.loop-at.invariant.long
 pub returns : goal.returns
 returns c =
     let a = c.args in
-    let e = wrote-end (paged a.numbers.now) utf8 a.text.now a.out.now c.loop-at.out c.loop-at.at c.loop-at.done c.loop-at.invariant c.loop-at-test.false in
+    let e = wrote-end (paged a.self.now.numbers) utf8 a.text.now a.out.now c.loop-at.out c.loop-at.at c.loop-at.done c.loop-at.invariant c.loop-at-test.false in
     record { count = e.0; output = e.1 }
