@@ -32,8 +32,7 @@ fn need_on(text: &[u8]) -> usize
     let mut pace = Pace::START;
     while let Some(p) = utf8::point_by(rest, &utf8::CLASSES) {
         total += convert_point::places(Target::Units, p.number);
-        let size = p.size;
-        let behind = &rest[size..];
+        let behind = &rest[p.size..];
         let run = utf8_check::paced_run(behind, pace);
         total += crate::spelling::need(&behind[..run]);
         pace = utf8_check::pace_behind(pace, run);
@@ -75,8 +74,7 @@ fn write_on(text: &[u8], out: &mut [u16]) -> usize
     let mut pace = Pace::START;
     while let Some(p) = utf8::point_by(rest, &utf8::CLASSES) {
         done += convert_point::put_units(&mut out[done..], p.number);
-        let size = p.size;
-        let behind = &rest[size..];
+        let behind = &rest[p.size..];
         let run = utf8_check::paced_run(behind, pace);
         done += spell_run(&behind[..run], &mut out[done..]);
         pace = utf8_check::pace_behind(pace, run);

@@ -69,7 +69,8 @@ impl Table {
         search(&self.numbers, c)
     }
 
-    // Code points that the page has, one after the other, until 64 bytes are passed: how many bytes they take.
+    // Code points that the page has, one after the other, until 64 bytes are passed: how many bytes they take. The walks keep an index:
+    // they answer it, or write beside it at another pace.
     fn held_some(&self, text: &[u8]) -> usize
         requires text_nonzero { (0 < length text.now) × (damages bytes text.now ≡ []) }
         ensures { Held self.now.numbers text.now result }
@@ -81,8 +82,7 @@ impl Table {
             let Some(_) = self.place_of(p.number) else {
                 return passed;
             };
-            let size = p.size;
-            passed += size;
+            passed += p.size;
         }
         passed
     }
@@ -164,7 +164,8 @@ impl Table {
         done
     }
 
-    // The text in the page, which has each of its code points; refused where the output has no room for them.
+    // The text in the page, which has each of its code points; refused where the output has no room for them. `write` of units and of
+    // code points go the same way: one function over closures for the need and the writing would be no shorter than each of them.
     fn write_held(&self, text: &[u8], out: &mut [u8]) -> Result<usize, Refusal>
         requires fits { Fits self.now.numbers text.now }
         ensures { Writes

@@ -13,7 +13,8 @@ ghost use Rattle.convert_point.specs.Puts.{Puts};
 
 use terms::Refusal;
 
-// How far a stride or a step went: so many bytes are passed over, and so many places written.
+// How far a stride or a step went: so many bytes are passed over, and so many places written. convert_from_page has such a pair of
+// its own: a crate for the two would be no plainer.
 #[derive(Clone, Copy)]
 pub(crate) struct Reach {
     pub passed: usize,
@@ -55,7 +56,8 @@ fn second_half(c: u8, d: u8) -> u16
     0xDC00 + (c as u16) % 0x10 * 0x40 + (d as u16) % 0x40
 }
 
-// Sequences of one byte, at most 32 of them.
+// Sequences of one byte, at most 32 of them. This walk and the next three stop at a byte of another kind, in one pass, and write at a
+// pace of their own, so they keep an index.
 fn ones(text: &[u8], out: &mut [u16]) -> Reach
     requires text_nonzero { (0 < length text.now) × (get_or text.now 0 0 < 0x80) }
     requires text_in_bounds { length (spelled text.now) ≤ length out.old }
@@ -166,7 +168,7 @@ fn fours(text: &[u8], out: &mut [u16]) -> Reach
     Reach { passed: at, put }
 }
 
-// Bytes as units, at the start of the output.
+// Bytes as units, at the start of the output. `points` has it for code points: over any T: From<u8> no contract could say the numbers.
 fn widen(text: &[u8], out: &mut [u16])
     requires { length text.now ≤ length out.old }
     ensures { out.new ≡ text.now ++ drop (length text.now) out.old }
