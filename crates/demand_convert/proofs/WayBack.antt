@@ -12,8 +12,7 @@ use Rattle.terms.specs.Strict.{damages, strictly, limited}
 use Rattle.terms.specs.Told.{told_refusal, if_granted}
 use Rattle.terms.specs.Writing.{output_of, Writes, convert_says}
 use Rattle.terms.specs.declared.Refusal.{Refusal}
-use Rattle.terms.specs.declared.Written.{Written}
-use Rattle.terms.specs.declared.Written.TheVariants.{Count, Refused}
+use Rattle.std.specs.Prelude.{Result, Ok, Err}
 use Rattle.terms.proofs.ConvertsBack.{Refuses, Granted, granted-says, says-granted, there_and_back}
 use Rattle.terms.proofs.FaithfulForms.{Faithful}
 use Rattle.terms.proofs.ToldBack.{no_zero}
@@ -25,12 +24,12 @@ use Rattle.demand_shared.proofs.CallWrote.{refused_as, refused_says, count-says,
 use Rattle.demand_shared.proofs.EqualExactly.{equal-same}
 
 -- a strict conversion that was called, and granted
-module _ (refuse : Entry Kind → List ℕ) (F G : Form) (text out : List ℕ) {out' : List ℕ} {r : Written}
+module _ (refuse : Entry Kind → List ℕ) (F G : Form) (text out : List ℕ) {out' : List ℕ} {r : Result ℕ Refusal}
     (w : Writes (convert_says refuse F G (length out) text) (converted F G text) out out' r) where
   abbrev says : List ℕ
   says = convert_says refuse F G (length out) text
 
-  module _ (refuses : Refuses refuse) (n : ℕ) (e : r ≡ Count n) where
+  module _ (refuses : Refuses refuse) (n : ℕ) (e : r ≡ Ok n) where
     says-count : says ≡ 0 ∷ n ∷ []
     says-count = count-says says (converted F G text) out w n e
 
@@ -49,13 +48,13 @@ module _ (refuse : Entry Kind → List ℕ) (F G : Form) (text out : List ℕ) {
     form-wrote = count-wrote says (converted F G text) out w n e count-is
 
 -- THE WAY BACK
-module _ (refuse : Entry Kind → List ℕ) (G F : Form) (text between back : List ℕ) {back' : List ℕ} {r : Written}
+module _ (refuse : Entry Kind → List ℕ) (G F : Form) (text between back : List ℕ) {back' : List ℕ} {r : Result ℕ Refusal}
     (w : Writes (convert_says refuse G F (length back) between) (converted G F between) back back' r) where
   -- the answer, from what the conversion says
   abbrev answer_of : List ℕ → Bool
   answer_of l = if_granted l (equal text (converted G F between)) (due_back l (length between) (length back) (length text))
 
-  pub back-granted : Refuses refuse → (n : ℕ) → r ≡ Count n → (b : Bool) → b ≡ equal text (take n back') → Back refuse G F text between back back' b
+  pub back-granted : Refuses refuse → (n : ℕ) → r ≡ Ok n → (b : Bool) → b ≡ equal text (take n back') → Back refuse G F text between back back' b
   back-granted refuses n e b h = record {
     answer =
         h
@@ -64,7 +63,7 @@ module _ (refuse : Entry Kind → List ℕ) (G F : Form) (text between back : Li
     returned = w.output;
   }
 
-  pub back-refused : (q : Refusal) → r ≡ Refused q → (b : Bool) → b ≡ due_back (told_refusal q) (length between) (length back) (length text)
+  pub back-refused : (q : Refusal) → r ≡ Err q → (b : Bool) → b ≡ due_back (told_refusal q) (length between) (length back) (length text)
       → Back refuse G F text between back back' b
   back-refused q e b h = record {
     answer = h ∙ sym (ap answer_of (refused_as (convert_says refuse G F (length back) between) (converted G F between) back w q e) ∙ rw (no_zero q));
@@ -72,10 +71,10 @@ module _ (refuse : Entry Kind → List ℕ) (G F : Form) (text between back : Li
   }
 
 -- THERE AND BACK
-module _ (refuse refuse' : Entry Kind → List ℕ) (F G : Form) (text between : List ℕ) {between' : List ℕ} {r : Written}
+module _ (refuse refuse' : Entry Kind → List ℕ) (F G : Form) (text between : List ℕ) {between' : List ℕ} {r : Result ℕ Refusal}
     (w : Writes (convert_says refuse F G (length between) text) (converted F G text) between between' r) where
   -- a refusal that was asked about, where so many places are enough
-  pub round-refused : Strict refuse → (back : List ℕ) (q : Refusal) → r ≡ Refused q → (most : ℕ) → (length text ≤ limit → length (converted F G text) ≤ most)
+  pub round-refused : Strict refuse → (back : List ℕ) (q : Refusal) → r ≡ Err q → (most : ℕ) → (length text ≤ limit → length (converted F G text) ≤ most)
       → (b : Bool) → b ≡ due_there (told_refusal q) (limited text (strictly refuse (damages F.look text) (0 ∷ []))) (length text) (length between) most
       → Round refuse refuse' F G text between back between' back b
   round-refused strict back q e most enough b h =
@@ -91,7 +90,7 @@ module _ (refuse refuse' : Entry Kind → List ℕ) (F G : Form) (text between :
         returned = rw g;
       }
 
-  pub round-granted : Faithful F → Faithful G → Refuses refuse → (n : ℕ) → r ≡ Count n → (back back' : List ℕ) (b : Bool)
+  pub round-granted : Faithful F → Faithful G → Refuses refuse → (n : ℕ) → r ≡ Ok n → (back back' : List ℕ) (b : Bool)
       → Back refuse' G F text (take n between') back back' b → Round refuse refuse' F G text between back between' back' b
   round-granted f g refuses n e back back' b h =
       let form : List ℕ = converted F G text in

@@ -3,7 +3,7 @@
 
 ghost use Rattle.std.specs.Prelude.{◌≡◌, length};
 ghost use Rattle.terms.specs.Strict.{damaged, check_says};
-ghost use Rattle.terms.specs.Told.{told_refusal, told_checked, is_granted};
+ghost use Rattle.terms.specs.Told.{told_refusal, told_checked};
 ghost use Rattle.utf8.specs.Bytes.{bytes};
 ghost use Rattle.utf8.specs.Scalar.{utf8};
 ghost use Rattle.utf16.specs.Units.{units};
@@ -15,47 +15,31 @@ ghost use Rattle.demand_convert.specs.Due.{same_told, due_there, due_back};
 ghost use Rattle.demand_convert.specs.Rounds.{Back, Round};
 
 use convert_point::Target;
-use terms::{Checked, Decoder, Refusal, Written};
+use terms::{Decoder, Refusal};
 
 // Does the strict check refuse with this refusal?
-fn refused_so(why: Refusal, check: Checked) -> bool
+fn refused_so(why: Refusal, check: Result<(), Refusal>) -> bool
     ensures { result ≡ same_told (told_refusal why) (told_checked check) }
 {
-    match check {
-        Checked::WellFormed => false,
-        Checked::Refused(r) => {
-            (why.number() == r.number())
-                & (why.first_value() == r.first_value())
-                & (why.second_value() == r.second_value())
-                & (why.third_value() == r.third_value())
-        }
-    }
-}
-
-// Does it accept?
-pub fn accepted(check: Checked) -> bool
-    ensures { result ≡ is_granted (told_checked check) }
-{
-    match check {
-        Checked::WellFormed => true,
-        Checked::Refused(_) => false,
-    }
+    check == Err(why)
 }
 
 // Was this refusal due on the way there, for a text of so many elements, of which the strict check says so and which can need so
 // much at most?
-pub fn due_there(why: Refusal, check: Checked, long: usize, room: usize, most: usize) -> bool
+pub fn due_there(
+    why: Refusal,
+    check: Result<(), Refusal>,
+    long: usize,
+    room: usize,
+    most: usize,
+) -> bool
     ensures { result ≡ due_there (told_refusal why) (told_checked check) long room most }
 {
     match why {
-        Refusal::Damaged {
-            start: _,
-            length: _,
-            cause: _,
-        } => refused_so(why, check),
-        Refusal::NoScalar { position: _ } => refused_so(why, check),
+        Refusal::Damaged { .. } => refused_so(why, check),
+        Refusal::NoScalar { .. } => refused_so(why, check),
         Refusal::OverLimit => Decoder::LIMIT < long,
-        Refusal::NoRoom { needed } => accepted(check) & (room < needed) & (needed <= most),
+        Refusal::NoRoom { needed } => check.is_ok() & (room < needed) & (needed <= most),
         _ => false,
     }
 }
@@ -102,8 +86,8 @@ fn units_as_bytes(text: &[u8], between: &[u16], back: &mut [u8]) -> bool
 {
     let room = back.len();
     match convert_from_utf16::to_bytes(between, back) {
-        Written::Count(n) => demand_shared::same_bytes(text, &back[..n]),
-        Written::Refused(why) => due_back(why, between.len(), room, text.len()),
+        Ok(n) => text == &back[..n],
+        Err(why) => due_back(why, between.len(), room, text.len()),
     }
 }
 
@@ -114,8 +98,8 @@ pub fn bytes_units(text: &[u8], between: &mut [u16], back: &mut [u8]) -> bool
 {
     let room = between.len();
     match convert_from_utf8::to_units(text, between) {
-        Written::Count(n) => units_as_bytes(text, &between[..n], back),
-        Written::Refused(why) => due_bytes(why, text, Target::Units, room),
+        Ok(n) => units_as_bytes(text, &between[..n], back),
+        Err(why) => due_bytes(why, text, Target::Units, room),
     }
 }
 
@@ -125,8 +109,8 @@ fn points_as_bytes(text: &[u8], between: &[u32], back: &mut [u8]) -> bool
 {
     let room = back.len();
     match convert_from_code_points::to_bytes(between, back) {
-        Written::Count(n) => demand_shared::same_bytes(text, &back[..n]),
-        Written::Refused(why) => due_back(why, between.len(), room, text.len()),
+        Ok(n) => text == &back[..n],
+        Err(why) => due_back(why, between.len(), room, text.len()),
     }
 }
 
@@ -137,8 +121,8 @@ pub fn bytes_points(text: &[u8], between: &mut [u32], back: &mut [u8]) -> bool
 {
     let room = between.len();
     match convert_from_utf8::to_points(text, between) {
-        Written::Count(n) => points_as_bytes(text, &between[..n], back),
-        Written::Refused(why) => due_bytes(why, text, Target::Points, room),
+        Ok(n) => points_as_bytes(text, &between[..n], back),
+        Err(why) => due_bytes(why, text, Target::Points, room),
     }
 }
 
@@ -148,8 +132,8 @@ fn bytes_as_units(text: &[u16], between: &[u8], back: &mut [u16]) -> bool
 {
     let room = back.len();
     match convert_from_utf8::to_units(between, back) {
-        Written::Count(n) => demand_shared::same_units(text, &back[..n]),
-        Written::Refused(why) => due_back(why, between.len(), room, text.len()),
+        Ok(n) => text == &back[..n],
+        Err(why) => due_back(why, between.len(), room, text.len()),
     }
 }
 
@@ -160,8 +144,8 @@ pub fn units_bytes(text: &[u16], between: &mut [u8], back: &mut [u16]) -> bool
 {
     let room = between.len();
     match convert_from_utf16::to_bytes(text, between) {
-        Written::Count(n) => bytes_as_units(text, &between[..n], back),
-        Written::Refused(why) => due_units(why, text, Target::Bytes, room),
+        Ok(n) => bytes_as_units(text, &between[..n], back),
+        Err(why) => due_units(why, text, Target::Bytes, room),
     }
 }
 
@@ -171,8 +155,8 @@ fn points_as_units(text: &[u16], between: &[u32], back: &mut [u16]) -> bool
 {
     let room = back.len();
     match convert_from_code_points::to_units(between, back) {
-        Written::Count(n) => demand_shared::same_units(text, &back[..n]),
-        Written::Refused(why) => due_back(why, between.len(), room, text.len()),
+        Ok(n) => text == &back[..n],
+        Err(why) => due_back(why, between.len(), room, text.len()),
     }
 }
 
@@ -183,8 +167,8 @@ pub fn units_points(text: &[u16], between: &mut [u32], back: &mut [u16]) -> bool
 {
     let room = between.len();
     match convert_from_utf16::to_points(text, between) {
-        Written::Count(n) => points_as_units(text, &between[..n], back),
-        Written::Refused(why) => due_units(why, text, Target::Points, room),
+        Ok(n) => points_as_units(text, &between[..n], back),
+        Err(why) => due_units(why, text, Target::Points, room),
     }
 }
 
@@ -194,8 +178,8 @@ fn bytes_as_points(text: &[u32], between: &[u8], back: &mut [u32]) -> bool
 {
     let room = back.len();
     match convert_from_utf8::to_points(between, back) {
-        Written::Count(n) => demand_shared::same_numbers(text, &back[..n]),
-        Written::Refused(why) => due_back(why, between.len(), room, text.len()),
+        Ok(n) => text == &back[..n],
+        Err(why) => due_back(why, between.len(), room, text.len()),
     }
 }
 
@@ -206,8 +190,8 @@ pub fn points_bytes(text: &[u32], between: &mut [u8], back: &mut [u32]) -> bool
 {
     let room = between.len();
     match convert_from_code_points::to_bytes(text, between) {
-        Written::Count(n) => bytes_as_points(text, &between[..n], back),
-        Written::Refused(why) => due_points(why, text, Target::Bytes, room),
+        Ok(n) => bytes_as_points(text, &between[..n], back),
+        Err(why) => due_points(why, text, Target::Bytes, room),
     }
 }
 
@@ -217,8 +201,8 @@ fn units_as_points(text: &[u32], between: &[u16], back: &mut [u32]) -> bool
 {
     let room = back.len();
     match convert_from_utf16::to_points(between, back) {
-        Written::Count(n) => demand_shared::same_numbers(text, &back[..n]),
-        Written::Refused(why) => due_back(why, between.len(), room, text.len()),
+        Ok(n) => text == &back[..n],
+        Err(why) => due_back(why, between.len(), room, text.len()),
     }
 }
 
@@ -229,7 +213,7 @@ pub fn points_units(text: &[u32], between: &mut [u16], back: &mut [u32]) -> bool
 {
     let room = between.len();
     match convert_from_code_points::to_units(text, between) {
-        Written::Count(n) => units_as_points(text, &between[..n], back),
-        Written::Refused(why) => due_points(why, text, Target::Units, room),
+        Ok(n) => units_as_points(text, &between[..n], back),
+        Err(why) => due_points(why, text, Target::Units, room),
     }
 }

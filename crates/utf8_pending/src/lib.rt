@@ -19,10 +19,9 @@ pub struct Seam {
 impl Seam {
     // The bytes that there are.
     pub fn as_slice(&self) -> &[u8]
-        requires { self.now.size ≤ 4 }
         ensures { result.now ≡ take self.now.size self.now.bytes }
     {
-        &self.bytes[..self.size]
+        &self.bytes[..self.size.min(4)]
     }
 }
 

@@ -13,28 +13,28 @@ use Rattle.convert_point.specs.Room.{most_of}
 use Rattle.convert_point.specs.declared.Target.TheVariants.{Bytes, Points}
 use Rattle.convert_point.proofs.Enough.{enough}
 use Rattle.demand_convert.proofs.WayBack.{count_fits, round-granted, round-refused}
-use Rattle.demand_convert.proofs.bytes_points.Goals.{In-Count}
+use Rattle.demand_convert.proofs.bytes_points.Goals.{In-Ok}
 use Rattle.demand_convert.proofs.bytes_points.Goals as goal
 
-within : (c : In-Count) → c.in-Count.n ≤ length c.to_points.new.out
+within : (c : In-Ok) → c.in-Ok.n ≤ length c.to_points.new.out
 within c =
     let a = c.args in
-    omega (arith, count_fits damaged utf8 code_points a.text.now a.between.now c.to_points.ensures (λ e. refl) c.in-Count.n c.in-Count.is, c.to_points.auto.out)
+    omega (arith, count_fits damaged utf8 code_points a.text.now a.between.now c.to_points.ensures (λ e. refl) c.in-Ok.n c.in-Ok.is, c.to_points.auto.out)
 
 pub slice_bounds-points_as_bytes-end : goal.slice_bounds-points_as_bytes-end
 slice_bounds-points_as_bytes-end c = within c
 
-pub slice_bounds-points_as_bytes-end-in-Count : goal.slice_bounds-points_as_bytes-end-in-Count
-slice_bounds-points_as_bytes-end-in-Count c = sym (length-take-le _ _ (within c))
+pub slice_bounds-points_as_bytes-end-in-Ok : goal.slice_bounds-points_as_bytes-end-in-Ok
+slice_bounds-points_as_bytes-end-in-Ok c = sym (length-take-le _ _ (within c))
 
-pub returns-in-Count : goal.returns-in-Count
-returns-in-Count c =
+pub returns-in-Ok : goal.returns-in-Ok
+returns-in-Ok c =
     let a = c.args in
-    round-granted damaged no_scalar utf8 code_points a.text.now a.between.now c.to_points.ensures utf8-faithful points-faithful (λ e. refl) c.in-Count.n c.in-Count.is
+    round-granted damaged no_scalar utf8 code_points a.text.now a.between.now c.to_points.ensures utf8-faithful points-faithful (λ e. refl) c.in-Ok.n c.in-Ok.is
     a.back.now c.points_as_bytes.new.back c.points_as_bytes.result c.points_as_bytes.ensures
 
-pub returns-in-Refused : goal.returns-in-Refused
-returns-in-Refused c =
+pub returns-in-Err : goal.returns-in-Err
+returns-in-Err c =
     let a = c.args in
-    round-refused damaged no_scalar utf8 code_points a.text.now a.between.now c.to_points.ensures (λ e. refl) a.back.now c.in-Refused.why c.in-Refused.is
+    round-refused damaged no_scalar utf8 code_points a.text.now a.between.now c.to_points.ensures (λ e. refl) a.back.now c.in-Err.why c.in-Err.is
     (most_of Bytes Points (length a.text.now)) (enough Bytes Points a.text.now) c.due_bytes.result c.due_bytes.ensures

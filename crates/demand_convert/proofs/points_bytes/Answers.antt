@@ -13,28 +13,28 @@ use Rattle.convert_point.specs.Room.{most_of}
 use Rattle.convert_point.specs.declared.Target.TheVariants.{Bytes, Points}
 use Rattle.convert_point.proofs.Enough.{enough}
 use Rattle.demand_convert.proofs.WayBack.{count_fits, round-granted, round-refused}
-use Rattle.demand_convert.proofs.points_bytes.Goals.{In-Count}
+use Rattle.demand_convert.proofs.points_bytes.Goals.{In-Ok}
 use Rattle.demand_convert.proofs.points_bytes.Goals as goal
 
-within : (c : In-Count) → c.in-Count.n ≤ length c.to_bytes.new.out
+within : (c : In-Ok) → c.in-Ok.n ≤ length c.to_bytes.new.out
 within c =
     let a = c.args in
-    omega (arith, count_fits no_scalar code_points utf8 a.text.now a.between.now c.to_bytes.ensures (λ e. refl) c.in-Count.n c.in-Count.is, c.to_bytes.auto.out)
+    omega (arith, count_fits no_scalar code_points utf8 a.text.now a.between.now c.to_bytes.ensures (λ e. refl) c.in-Ok.n c.in-Ok.is, c.to_bytes.auto.out)
 
 pub slice_bounds-bytes_as_points-end : goal.slice_bounds-bytes_as_points-end
 slice_bounds-bytes_as_points-end c = within c
 
-pub slice_bounds-bytes_as_points-end-in-Count : goal.slice_bounds-bytes_as_points-end-in-Count
-slice_bounds-bytes_as_points-end-in-Count c = sym (length-take-le _ _ (within c))
+pub slice_bounds-bytes_as_points-end-in-Ok : goal.slice_bounds-bytes_as_points-end-in-Ok
+slice_bounds-bytes_as_points-end-in-Ok c = sym (length-take-le _ _ (within c))
 
-pub returns-in-Count : goal.returns-in-Count
-returns-in-Count c =
+pub returns-in-Ok : goal.returns-in-Ok
+returns-in-Ok c =
     let a = c.args in
-    round-granted no_scalar damaged code_points utf8 a.text.now a.between.now c.to_bytes.ensures points-faithful utf8-faithful (λ e. refl) c.in-Count.n c.in-Count.is
+    round-granted no_scalar damaged code_points utf8 a.text.now a.between.now c.to_bytes.ensures points-faithful utf8-faithful (λ e. refl) c.in-Ok.n c.in-Ok.is
     a.back.now c.bytes_as_points.new.back c.bytes_as_points.result c.bytes_as_points.ensures
 
-pub returns-in-Refused : goal.returns-in-Refused
-returns-in-Refused c =
+pub returns-in-Err : goal.returns-in-Err
+returns-in-Err c =
     let a = c.args in
-    round-refused no_scalar damaged code_points utf8 a.text.now a.between.now c.to_bytes.ensures (λ e. refl) a.back.now c.in-Refused.why c.in-Refused.is
+    round-refused no_scalar damaged code_points utf8 a.text.now a.between.now c.to_bytes.ensures (λ e. refl) a.back.now c.in-Err.why c.in-Err.is
     (most_of Points Bytes (length a.text.now)) (enough Points Bytes a.text.now) c.due_points.result c.due_points.ensures
