@@ -4,7 +4,7 @@ use Prim.Native.Nat.{ℕ, ◌<◌}
 use mathlib.Core.List.{List}
 use native.Mathlib.Omega.{arith}
 use Rattle.std.proofs.Common.{Option, Some, None, unwrap_or, IfSome}
-use Rattle.convert_utf16_blocks.specs.Block.{no_part, Counts, Puts}
+use Rattle.convert_utf16_blocks.specs.Block.{no_part, Counts, Puts, CountsSome, PutsSome}
 use Rattle.convert_utf16_blocks.specs.declared.Part.{Part}
 
 pub counts_once : {units : List ℕ} {q r : Part} → Counts units q → Counts units r → q ≡ r
@@ -23,10 +23,9 @@ some_once None (Some r) a b e = let z : 0 ≡ r.read = ap (λ (p : Part). p.read
 some_once (Some q) None a b e = let z : q.read ≡ 0 = ap (λ (p : Part). p.read) e in absurd (omega arith)
 some_once (Some q) (Some r) a b e = ap Some e
 
-module _ {units : List ℕ} {q r : Option Part} (a : IfSome q (λ p. 0 < p.read)) (b : IfSome r (λ p. 0 < p.read)) where
-  pub counted_once : Counts units (unwrap_or q no_part) → Counts units (unwrap_or r no_part) → q ≡ r
-  counted_once f g = some_once q r a b (counts_once f g)
+pub counts_some_once : {units : List ℕ} {q r : Option Part} → CountsSome units q → CountsSome units r → q ≡ r
+counts_some_once {q = q} {r = r} f g = some_once q r f.some g.some (counts_once f.told g.told)
 
-  pub put_once : {out out' out'' : List ℕ} → Puts units out out' (unwrap_or q no_part) → Puts units out out'' (unwrap_or r no_part)
-      → (q ≡ r) × (out' ≡ out'')
-  put_once f g = (counted_once f.counts g.counts, f.output ∙ sym g.output)
+pub puts_some_once : {units out out' out'' : List ℕ} {q r : Option Part} → PutsSome units out out' q → PutsSome units out out'' r
+    → (q ≡ r) × (out' ≡ out'')
+puts_some_once {q = q} {r = r} f g = (some_once q r f.some g.some (counts_once f.told.counts g.told.counts), f.told.output ∙ sym g.told.output)

@@ -1,5 +1,5 @@
 -- Blocks of alone units, and the bytes of units that each stand by themselves.
-use Rattle.std.specs.Prelude.{◌≡◌, ℕ, Bool, true, cond, ◌&&◌, List, [], ◌∷◌, ◌++◌, length, take, drop, ltb}
+use Rattle.std.specs.Prelude.{◌≡◌, ℕ, Bool, true, cond, ◌&&◌, List, [], ◌∷◌, ◌++◌, length, take, drop, ltb, ◌<◌, Option, unwrap_or, IfSome}
 use Rattle.theory.specs.Tally.{written}
 use Rattle.utf8.specs.Scalar.{sequence}
 use Rattle.utf16.specs.Alone.{all_alone}
@@ -47,3 +47,12 @@ pub record Counts (units : List ℕ) (r : Part) : Type 0 where
 pub record Puts (units out out' : List ℕ) (r : Part) : Type 0 where
   pub counts : Counts units r
   pub output : out' ≡ bytes_of units ++ drop (length (bytes_of units)) out
+
+-- the same of a part that is answered only where some units were read
+pub record CountsSome (units : List ℕ) (r : Option Part) : Type 0 where
+  pub told : Counts units (unwrap_or r no_part)
+  pub some : IfSome r (λ p. 0 < p.read)
+
+pub record PutsSome (units out out' : List ℕ) (r : Option Part) : Type 0 where
+  pub told : Puts units out out' (unwrap_or r no_part)
+  pub some : IfSome r (λ p. 0 < p.read)

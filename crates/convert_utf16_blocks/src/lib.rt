@@ -1,9 +1,9 @@
 // Units that stand alone as UTF-8 bytes, a block of 128 at a time: how many bytes they take, and the bytes at the start of an output.
 #![tactic(auto)]
 
-ghost use Rattle.std.specs.Prelude.{◌≡◌, true, ◌++◌, ◌<◌, ◌≤◌, length, drop, unwrap_or, IfSome};
+ghost use Rattle.std.specs.Prelude.{◌≡◌, true, ◌++◌, ◌≤◌, length, drop};
 ghost use Rattle.utf8.specs.Scalar.{later};
-ghost use Rattle.convert_utf16_blocks.specs.Block.{low, block, roomy, bytes_of, no_part, Counts, Puts};
+ghost use Rattle.convert_utf16_blocks.specs.Block.{low, block, roomy, bytes_of, CountsSome, PutsSome};
 ghost use Rattle.convert_utf16_blocks.specs.Inside.Places.{size_of, first_byte, second_byte, Mapped, Squeezed};
 
 mod sixteen;
@@ -135,8 +135,7 @@ fn put_mixed(units: &[u16; 128], out: &mut [u8]) -> usize
 
 // How many bytes the first block of a text takes, if its units stand alone.
 pub fn count_block(text: &[u16]) -> Option<Part>
-    ensures told { Counts (block text.now) (unwrap_or result no_part) }
-    ensures some { IfSome result (λ p. 0 < p.read) }
+    ensures { CountsSome (block text.now) result }
 {
     let units = text.first_chunk::<128>()?;
     if are_low(units) {
@@ -156,8 +155,7 @@ pub fn count_block(text: &[u16]) -> Option<Part>
 
 // The bytes of the first block of a text, if its units stand alone and the output is long enough for any block.
 pub fn put_block(text: &[u16], out: &mut [u8]) -> Option<Part>
-    ensures told { Puts (roomy (length out.old) text.now) out.old out.new (unwrap_or result no_part) }
-    ensures some { IfSome result (λ p. 0 < p.read) }
+    ensures { PutsSome (roomy (length out.old) text.now) out.old out.new result }
 {
     if out.len() < 384 {
         return None;

@@ -1,13 +1,12 @@
 // Sixteen units below 0x80 as bytes, which are themselves, at the start of an output.
-ghost use Rattle.std.specs.Prelude.{◌≡◌, ◌<◌, length, unwrap_or, IfSome};
-ghost use Rattle.convert_utf16_blocks.specs.Block.{sixteen, no_part, Puts};
+ghost use Rattle.std.specs.Prelude.{length};
+ghost use Rattle.convert_utf16_blocks.specs.Block.{sixteen, PutsSome};
 
 use crate::{Part, are_low, put_low};
 
 // The bytes of the first 16 units of a text, if they are below 0x80 and the output has a place for each.
 pub fn put_sixteen(text: &[u16], out: &mut [u8]) -> Option<Part>
-    ensures told { Puts (sixteen (length out.old) text.now) out.old out.new (unwrap_or result no_part) }
-    ensures some { IfSome result (λ p. 0 < p.read) }
+    ensures { PutsSome (sixteen (length out.old) text.now) out.old out.new result }
 {
     if out.len() < 16 {
         return None;
