@@ -5,7 +5,7 @@ use native.Mathlib.Nat.{add-zero}
 use mathlib.Core.Bool.{true}
 use mathlib.Core.List.{List, [], ◌∷◌, map, append-nil}
 use lib.ListN.{length, take, drop, length-drop}
-use lib.Seq.{take-add}
+use lib.Seq.{take-add, drop-drop}
 use native.Mathlib.Omega.{arith}
 use Rattle.theory.specs.Reader.{first, cut}
 use Rattle.theory.specs.Table.{Kind, whole, damage, is_damage}
@@ -30,6 +30,37 @@ use Rattle.decoder_shared.proofs.TalliedWalk.{first_of, Walked, walked-run, run_
 -- a block behind a run of them
 pub alone_on : (text : List ℕ) (at n : ℕ) → all_alone (take at text) ≡ true → all_alone (take n (drop at text)) ≡ true → all_alone (take (at + n) text) ≡ true
 alone_on text at n a b = rw (take-add at n text, alone_append, a, b)
+
+-- a walk over blocks of them has a part left
+pub record Alone (text part : List ℕ) : Type 0 where
+  pub at : ℕ
+  pub inside : at ≤ length text
+  pub short : length part ≤ length text
+  pub part-is : part ≡ drop at text
+  pub alone : all_alone (take at text) ≡ true
+
+pub alone_start : (text : List ℕ) → Alone text text
+alone_start text = record { at = 0; inside = omega arith; short = omega arith; part-is = refl; alone = refl }
+
+module _ (text part : List ℕ) (r : Alone text part) where
+  long-is : length part ≡ length text - r.at
+  long-is = ap length r.part-is ∙ length-drop r.at text
+
+  -- a block more
+  pub alone-next : (n : ℕ) → n ≤ length part → all_alone (take n part) ≡ true → Alone text (drop n part)
+  alone-next n h a = record {
+    at = r.at + n;
+    inside = omega (arith, r.inside, h, long-is);
+    short = omega (arith, r.short, length-drop n part);
+    part-is = ap (drop n) r.part-is ∙ drop-drop n r.at text;
+    alone = alone_on text r.at n r.alone (rw r.part-is at a);
+  }
+
+  -- so many stand alone in front of it
+  pub alone-found : (length text - length part ≤ length text) × (all_alone (take (length text - length part) text) ≡ true)
+  alone-found =
+      let e : r.at ≡ length text - length part = omega (arith, r.inside, long-is) in
+      (omega arith, rw e at r.alone)
 
 singles_undamaged : (xs : List ℕ) → Undamaged is_damage (map single xs)
 singles_undamaged [] = tt

@@ -81,16 +81,11 @@ fn is_tail(held: [u16; UnitDecoder::PENDING], n: usize) -> bool
     ensures { result ≡ is_tail held n }
 {
     let x = held[0];
-    if n == 0 {
-        return x == 0;
+    match n {
+        0 => x == 0,
+        1 => 0xD800 <= x && x <= 0xDBFF,
+        _ => false,
     }
-    if n != 1 {
-        return false;
-    }
-    if x < 0xD800 {
-        return false;
-    }
-    x <= 0xDBFF
 }
 
 // Are the units those that were taken, and is every number within its bounds? No sum is made that could wrap.
@@ -119,11 +114,7 @@ fn is_balanced(state: UnitDecoder) -> bool
 fn is_sound(state: UnitDecoder) -> bool
     ensures { result ≡ sound state }
 {
-    let held = state.held;
-    if !is_tail(held, state.pending) {
-        return false;
-    }
-    is_balanced(state)
+    is_tail(state.held, state.pending) && is_balanced(state)
 }
 
 // May a state take a call that brings so many units and lends a list of so many numbers?
@@ -146,22 +137,12 @@ fn tally_of(state: UnitDecoder) -> Tally
     }
 }
 
-// The first unit of a text, 0 where it has none.
-fn first_unit(text: &[u16]) -> u16
-    ensures { result ∷ [] ≡ take 1 (text.now ++ 0 ∷ []) }
-{
-    if text.len() == 0 {
-        return 0;
-    }
-    text[0]
-}
-
 // The state that keeps a tally and what is left.
 fn keep(left: &[u16], tally: Tally, taken: usize, room: usize) -> UnitDecoder
     ensures { result ≡ keeping left.now tally taken room }
 {
     UnitDecoder {
-        held: [first_unit(left)],
+        held: [left.first().copied().unwrap_or(0)],
         pending: left.len(),
         taken,
         whole: tally.whole,

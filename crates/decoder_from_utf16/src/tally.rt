@@ -19,15 +19,14 @@ fn alone_run(text: &[u16], due: bool) -> usize
     if !due {
         return 0;
     }
-    let mut at: usize = 0;
-    while BLOCK <= text.len() - at {
-        let end = at + BLOCK;
-        if !utf16::are_alone(&text[at..end]) {
-            return at;
+    let mut rest = text;
+    while let Some((block, behind)) = rest.split_first_chunk::<BLOCK>() {
+        if !utf16::are_alone(block) {
+            break;
         }
-        at = end;
+        rest = behind;
     }
-    at
+    text.len() - rest.len()
 }
 
 // Where the next block is due: where one has a half, its length is read by segments before another is tried.

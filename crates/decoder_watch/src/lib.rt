@@ -31,16 +31,16 @@ pub fn step(state: Decoder, b: u8) -> Watched
     if Decoder::ROOM < state.room {
         return refuse(state);
     }
-    let mut bare = state;
-    bare.room = 0;
-    let piece = [b];
+    let bare = Decoder { room: 0, ..state };
     let mut out = [0u8; 6];
     let mut list = [0u32; 1];
-    let fed = decoder::feed(bare, &piece, &mut out, &mut list);
+    let fed = decoder::feed(bare, &[b], &mut out, &mut list);
     match fed.answer {
         Ok(_) => {
-            let mut next = fed.state;
-            next.room = state.room;
+            let next = Decoder {
+                room: state.room,
+                ..fed.state
+            };
             Watched {
                 state: next,
                 reply: next.count as u32,

@@ -1,31 +1,21 @@
 -- `tally::alone_run` meets its contract: so far all units stand alone.
-use mathlib.Core.Path.{◌≡◌, refl, sym, ◌∙◌}
-use mathlib.Core.Bool.{true}
-use lib.ListN.{take, drop}
+use mathlib.Core.Path.{refl, sym, ◌∙◌}
 use native.Mathlib.Omega.{arith}
-use Rattle.terms.proofs.WalkBySegments.{part_to}
-use Rattle.utf16.specs.Alone.{all_alone}
-use Rattle.decoder_from_utf16.proofs.TallyOfUnits.{alone_on}
+use Rattle.decoder_from_utf16.proofs.TallyOfUnits.{alone_start, alone-next, alone-found}
 use Rattle.decoder_from_utf16.proofs.tally.alone_run.Goals as goal
 
 pub returns-then-not-due : goal.returns-then-not-due
 returns-then-not-due c = (omega arith, refl)
 
-pub loop-at-init : goal.loop-at-init
-loop-at-init c = (omega arith, refl)
+pub loop-block-init : goal.loop-block-init
+loop-block-init c = alone_start c.args.text.now
 
-pub overflow_sub-text : goal.overflow_sub-text
-overflow_sub-text c = c.loop-at.invariant.0
-
-pub returns-then-not-are_alone : goal.returns-then-not-are_alone
-returns-then-not-are_alone c = c.loop-at.invariant
-
-pub loop-at-preserved : goal.loop-at-preserved
-loop-at-preserved c =
-    let t = c.args.text.now in
-    let k = c.loop-at.at in
-    let e : all_alone (take 32 (drop k t)) ≡ true = rw (← part_to t k 32) (sym c.are_alone.ensures ∙ c.if-not-are_alone.false) in
-    (omega arith, alone_on t k 32 c.loop-at.invariant.1 e)
+pub loop-block-preserved : goal.loop-block-preserved
+loop-block-preserved c =
+    let e = c.in-Some.ensures.cases in
+    rw e.1
+    (alone-next c.args.text.now c.loop-block.rest.now c.loop-block.invariant 32 (omega (arith, e.2))
+    (rw e.0 at (sym c.are_alone.ensures ∙ c.if-not-are_alone.false)))
 
 pub returns : goal.returns
-returns c = c.loop-at.invariant
+returns c = alone-found c.args.text.now c.loop-block.rest.now c.loop-block.invariant
