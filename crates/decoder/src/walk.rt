@@ -5,6 +5,8 @@ ghost use Rattle.terms.specs.Limits.{limit};
 ghost use Rattle.utf8.specs.Bytes.{bytes};
 ghost use Rattle.decoder.specs.Inside.Acting.{work, Ready, Settles, need, places, lack};
 
+// The tally in decoder_to_utf16 walks alike. One walk by two closures would be no plainer: its contract could only fold what they promise.
+
 use crate::repair::Repair;
 use terms::First;
 use utf8_check::Pace;

@@ -124,7 +124,8 @@ fn admit(state: UnitDecoder, more: usize, row: usize) -> Result<(), Refusal>
     decoder_shared::admit(is_sound(state), state.taken, state.room, more, row)
 }
 
-// ---- a piece behind what is pending
+// ---- a piece behind what is pending: the other decoders go alike, over other elements and states. One function for them would take the
+// reader and the conversion as closures, and its contract could not name the form that is written.
 
 // The tally that a state begins with.
 fn tally_of(state: UnitDecoder) -> Tally

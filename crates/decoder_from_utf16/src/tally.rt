@@ -40,7 +40,7 @@ fn next_block(block: usize, at: usize) -> usize
     block
 }
 
-// Each settled segment of a text is tallied in its turn; units that stand alone go by blocks.
+// Each settled segment of a text is tallied in its turn; units that stand alone go by blocks. It keeps its place, at which a block is due.
 pub(crate) fn walk(text: &[u16], tally: Tally, room: usize, list: &mut [u32]) -> Settled
     requires { Fits room (length text.now) (log_of tally list.old) }
     ensures { Settles units room text.now (log_of tally list.old) (log_of result.tally list.new) result.size }

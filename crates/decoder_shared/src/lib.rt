@@ -12,6 +12,8 @@ mod tally;
 
 pub use tally::{Settled, Tally};
 
+// A refusal gives the state back too, so the answer beside it is the Result, and not all that a call gives.
+
 // What a start gives: whether its room was refused, and the state.
 #[derive(Clone, Copy)]
 pub struct Started<S> {

@@ -35,7 +35,8 @@ fn admit(state: Decoder, more: usize, row: usize) -> Result<(), Refusal>
     decoder_shared::admit(decoder::is_sound(state), state.taken, state.room, more, row)
 }
 
-// ---- a piece behind what is pending
+// ---- a piece behind what is pending: the other decoders go alike, over other elements and states. One function for them would take the
+// reader and the conversion as closures, and its contract could not name the form that is written.
 
 // A segment, and all that is settled of a text behind it, are tallied; so many of their damages have room in the list.
 fn tally_both(seg: First, rest: &[u8], state: Decoder, room: usize, list: &mut [u32]) -> Settled
