@@ -25,8 +25,8 @@ fn apart(first: &[u8], second: &[u8], a: u8, b: u8, size: usize) -> bool
     ensures { result ≡ true → Apart first.now second.now a b size }
 {
     let mut least: u8 = 255;
-    for k in 0..size {
-        least = least.min(differ(first[k], second[k], a, b));
+    for (x, y) in first[..size].iter().zip(&second[..size]) {
+        least = least.min(differ(*x, *y, a, b));
     }
     0 < least
 }
@@ -38,7 +38,8 @@ fn if_same(differs: u8, k: u8, other: u8) -> u8
     if differs == 0 { k } else { other }
 }
 
-// How many of so many places come before one at which the two bytes are not apart? All of them, where there is none.
+// How many of so many places come before one at which the two bytes are not apart? All of them, where there is none. By index, since
+// the least place itself is sought, as a byte: `enumerate` counts in words, and the loop would be narrower.
 fn before(first: &[u8], second: &[u8], a: u8, b: u8, size: usize) -> usize
     requires { (size ≤ 64) × (size ≤ length first.now) × (size ≤ length second.now) }
     ensures { Apart first.now second.now a b result × (result ≤ size) }
@@ -66,6 +67,7 @@ fn block(first: &[u8], second: &[u8], a: u8, b: u8, size: usize) -> usize
     before(first, second, a, b, size)
 }
 
+// The entry and the needle are lent beside it: a struct of the two would be taken apart again in each method.
 impl Ahead {
     // By blocks of a size: the next place at which both bytes stand, or one with no whole block from there on.
     fn pass(self, entry: &[u8], needle: &[u8], place: usize, size: usize) -> usize

@@ -28,7 +28,7 @@ fn rank(turned: bool, b: u8) -> u8
     if turned { 255 - b } else { b }
 }
 
-// The greatest suffix. As far as j + k the greatest starts at s and has the period p, and its last whole copy ends at j.
+// The greatest suffix. Three indices move by turns, which no iterator does. As far as j + k the greatest starts at s and has the period p, and its last whole copy ends at j.
 fn greatest(needle: &[u8], turned: bool) -> Suffix
     requires { 0 < length needle.now }
     ensures { Greatest (ranked turned (at needle.now)) (length needle.now) result.start result.period }
