@@ -99,14 +99,6 @@ told-settled seg text e =
     rw (w, eq-eqb n 1 o))
     (λ w. split (eqb n 1) (λ i. rw (w, i)) (λ i. rw (w, i))))
 
-pub left_empty : (text : List ℕ) → length text ≡ 0 → is_left text ≡ true
-left_empty [] e = refl
-left_empty (x ∷ xs) e = absurd (omega arith)
-
-pub left-some : (text : List ℕ) → (length text ≡ 0 → ⊥) → is_left text ≡ waits_behind text []
-left-some [] e = absurd (e refl)
-left-some (x ∷ xs) e = refl
-
 pub left-none : (text : List ℕ) → is_left text ≡ true → total size (first_settled reader text) ≡ 0
 left-none [] e = rw (settled-nil reader)
 left-none (x ∷ xs) e = settled-size (x ∷ xs) ∙ rw e

@@ -1,10 +1,10 @@
 -- The tests of a state, as facts about its numbers.
 use mathlib.Core.Path.{◌≡◌, sym, ◌∙◌}
 use Prim.Native.Nat.{◌-◌, ◌≤◌}
-use mathlib.Core.Bool.{true, false}
+use mathlib.Core.Bool.{true}
 use lib.Dec.{leb}
 use borrow.Author.Tests.{leb-true, le-leb}
-use Rattle.theory.proofs.Cases.{split, both}
+use Rattle.theory.proofs.Cases.{both}
 use Rattle.terms.specs.Limits.{limit}
 use Rattle.utf8_pending.specs.Tail.{is_tail}
 use Rattle.utf8_pending.proofs.HeldInPlaces.{Tail, tail-is, is-tail}
@@ -37,9 +37,6 @@ module _ (b : Builder) where
         points = leb-true _ _ p.1;
         units = leb-true _ _ u.1;
       }
-
-  pub unsound : (Sound b → ⊥) → false ≡ sound b
-  unsound f = split (sound b) (λ e. absurd (f (sound_is e))) (λ e. sym e)
 
   -- once the others hold, the units decide
   pub sound-units : is_tail reader b.held b.pending ≡ true → b.taken ≤ limit → b.pending ≤ b.taken → b.lines ≤ b.points
