@@ -12,7 +12,8 @@ ghost use Rattle.convert_from_page.specs.Inside.Store.{first_of, Stores};
 
 use page::Page;
 
-// How far a stride went: so many bytes are passed over, and so many places written.
+// How far a stride went: so many bytes are passed over, and so many places written. convert_from_utf8 has such a pair of its own: a crate
+// for the two would be no plainer.
 #[derive(Clone, Copy)]
 pub(crate) struct Reach {
     pub passed: usize,
@@ -120,7 +121,8 @@ impl Table {
         Reach { passed: m, put }
     }
 
-    // The bytes of the numbers of a text, at the start of an output that has room for them.
+    // The bytes of the numbers of a text, at the start of an output that has room for them. It keeps an index, which goes on by what a stride
+    // passed: the rest of the text beside it would be no plainer.
     pub(crate) fn put(&self, text: &[u8], out: &mut [u8]) -> usize
         requires text_in_bounds { length (converted (paged self.now.numbers) utf8 text.now) ≤ length out.old }
         ensures { Puts (converted (paged self.now.numbers) utf8 text.now) out.old out.new result }
