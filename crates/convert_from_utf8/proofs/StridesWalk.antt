@@ -5,9 +5,8 @@ use native.Mathlib.Nat.{add-zero}
 use native.Mathlib.Numerals.{add-one}
 use mathlib.Core.List.{List, [], ◌∷◌, ◌++◌, append-nil}
 use lib.ListN.{length, get_or, take, drop, set, length-append, length-drop, take-append-drop}
-use lib.Seq.{length-take-le, drop-drop, get_or-drop}
+use lib.Seq.{length-take-le, drop-drop}
 use native.Mathlib.Omega.{arith}
-use Rattle.theory.proofs.Cases.{under}
 use Rattle.terms.proofs.WalkBySegments.{part_is}
 use Rattle.terms.proofs.WalkWrites.{Passed, Filled, lent, filled-room, filled-sets}
 use Rattle.ascii.specs.Ascii.{Ascii}
@@ -86,11 +85,3 @@ ascii_strides text out out' n h z p e =
       puts = record { count = sym l; output = rw l e };
       ended = λ q. absurd (z q);
     }
-
--- a ascii beginning goes on
-pub ascii_more : (text : List ℕ) (at n : ℕ) → Ascii text at → Ascii (take (length text - at) (drop at text)) n → Ascii text (at + n)
-ascii_more text at n p q k h = under k at (p k) (λ l.
-    let i : at + (k - at) ≡ k = omega arith in
-    let r : Ascii (drop at text) n = rw (part_is text at) at q in
-    let s : get_or text (at + (k - at)) 0 < 0x80 = rw (get_or-drop at text (k - at) 0) at (r (k - at) (omega arith)) in
-    rw i at s)

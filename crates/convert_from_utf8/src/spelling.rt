@@ -67,7 +67,8 @@ fn ones(text: &[u8], out: &mut [u16]) -> Reach
     let mut at: usize = 0;
     while at < stop {
         let a = text[at];
-        if 0x80 <= a {
+        let ended = 0x80 <= a;
+        if ended {
             return Reach {
                 passed: at,
                 put: at,

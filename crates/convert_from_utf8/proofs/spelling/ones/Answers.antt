@@ -6,7 +6,7 @@ use native.Mathlib.Omega.{arith}
 use Rattle.terms.proofs.WalkWrites.{Passed, filled-start}
 use Rattle.convert_from_utf8.proofs.SpelledByKind.{left, passed-one}
 use Rattle.convert_from_utf8.proofs.StridesWalk.{strides, stored_one, room_for}
-use Rattle.convert_from_utf8.proofs.spelling.ones.Goals.{Else-a-ge128}
+use Rattle.convert_from_utf8.proofs.spelling.ones.Goals.{Else-ended}
 use Rattle.convert_from_utf8.proofs.spelling.ones.Goals as goal
 
 pub loop-at-init : goal.loop-at-init
@@ -15,22 +15,22 @@ loop-at-init c = let a = c.args in (filled-start (left a.text.now) (length a.tex
 pub bounds-text-at : goal.bounds-text-at
 bounds-text-at c = omega (arith, c.loop-at.invariant.0.inside, c.min-stop.ensures)
 
-pub shape_of-out-then-a-ge128 : goal.shape_of-out-then-a-ge128
-shape_of-out-then-a-ge128 c = c.loop-at.invariant.0.long
+pub shape_of-out-then-ended : goal.shape_of-out-then-ended
+shape_of-out-then-ended c = c.loop-at.invariant.0.long
 
-pub returns-then-a-ge128 : goal.returns-then-a-ge128
-returns-then-a-ge128 c =
+pub returns-then-ended : goal.returns-then-ended
+returns-then-ended c =
     let text = c.args.text.now in
     strides text c.args.out.now c.loop-at.out c.loop-at.at c.loop-at.at c.loop-at.invariant.0
-    (λ e. absurd (omega (arith, ap (λ i. get_or text i 0) e, c.requires.text_nonzero.1, c.if-a-ge128.true)))
+    (λ e. absurd (omega (arith, ap (λ i. get_or text i 0) e, c.requires.text_nonzero.1, c.if-ended.true)))
 
 -- the byte that was read
-here : (c : Else-a-ge128)
+here : (c : Else-ended)
     → let text = c.args.text.now in
     Passed (left text) (length text) c.loop-at.at 1 (get_or c.args.text.now c.loop-at.at 0 ∷ [])
 here c =
     let text = c.args.text.now in
-    (passed-one text c.loop-at.at (omega (arith, c.loop-at-test.true, c.min-stop.ensures)) (omega (arith, c.if-a-ge128.false)))
+    (passed-one text c.loop-at.at (omega (arith, c.loop-at-test.true, c.min-stop.ensures)) (omega (arith, c.if-ended.false)))
 
 pub bounds-out-at : goal.bounds-out-at
 bounds-out-at c =
