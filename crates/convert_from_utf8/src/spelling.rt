@@ -169,7 +169,8 @@ fn fours(text: &[u8], out: &mut [u16]) -> Reach
     Reach { passed: at, put }
 }
 
-// Bytes as units, at the start of the output. `points` has it for code points: over any T: From<u8> no contract could say the numbers.
+// Bytes as units, at the start of the output. `points` has it for code points: one for both would need a trait whose laws say the number of
+// each element, longer than the two.
 fn widen(text: &[u8], out: &mut [u16])
     requires { length text.now ≤ length out.old }
     ensures { out.new ≡ text.now ++ drop (length text.now) out.old }
