@@ -1,5 +1,5 @@
--- The telling: where there is room, so many of the numbers stand at the start of the slice
-pub mod ToldInFront
+-- The numbers that are said of an answer, and 0 in the places behind them
+pub mod ZerosBehind
 -- All that an answer tells is said of it: no answer tells more numbers than there are places
 pub mod AllSaid
 -- A wrapper's promise, from what the wrapped call answered, what was said of it and the telling

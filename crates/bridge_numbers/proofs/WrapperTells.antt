@@ -3,11 +3,12 @@ use mathlib.Core.Path.{◌≡◌, refl, ◌∙◌, subst}
 use Prim.Native.Nat.{ℕ, ◌≤◌, ◌<◌}
 use mathlib.Core.Bool.{Bool, true, false, ◌&&◌}
 use mathlib.Core.List.{List}
+use Rattle.std.specs.Prelude.{Result}
 use lib.ListN.{length}
 use borrow.Author.Tests.{le-leb, lt-leb}
 use Rattle.terms.specs.Told.{told_written}
 use Rattle.terms.specs.Writing as call
-use Rattle.terms.specs.declared.Written.{Written}
+use Rattle.terms.specs.declared.Refusal.{Refusal}
 use Rattle.bridge_numbers.specs.Telling.{saying, said_of, roomy, not_called, Tells}
 use Rattle.bridge_numbers.specs.declared.telling.Said.{Said}
 use Rattle.bridge_numbers.specs.Writing.{Writes}
@@ -34,7 +35,7 @@ also e t = rw e t
 pub unwritten : {said form out says : List ℕ} → length says < 8 → Writes (roomy says) said form out out says says not_called
 unwritten {says = says} h = rw (lt-leb 8 (length says) h) (record { tells = record { reply = refl; told = refl }; output = refl })
 
-pub wrote : {said form out out' says says' : List ℕ} {r : ℕ} {w : Written} {s : Said} → 8 ≤ length says
+pub wrote : {said form out out' says says' : List ℕ} {r : ℕ} {w : Result ℕ Refusal} {s : Said} → 8 ≤ length says
     → call.Writes said form out out' w → s ≡ said_of (told_written w) → Tells (roomy says) (saying s) says says' r
     → Writes (roomy says) said form out out' says says' r
 wrote {says = says} {w = v} h w s t =

@@ -1,20 +1,31 @@
 // What the library's calls answer, as numbers: what is said of each answer.
-ghost use Rattle.std.specs.Prelude.{◌≡◌, [], ◌∷◌};
+ghost use Rattle.std.specs.Prelude.{◌≡◌, ◌≤◌, ◌∷◌};
 ghost use Rattle.terms.specs.Told.{told_refusal, told_first, told_checked, told_written, bit};
-ghost use Rattle.decoder.specs.Feeding.{told_opening, told_total};
+ghost use Rattle.terms.specs.Form.{told_point};
+ghost use Rattle.decoder.specs.Feeding.{told_total};
 ghost use Rattle.place.specs.Lookup.{told_placed};
 ghost use Rattle.find.specs.Match.{told_match};
-ghost use Rattle.index_build.specs.State.{told_building};
-ghost use Rattle.bridge_numbers.specs.Telling.{said_of};
+ghost use Rattle.bridge_numbers.specs.Telling.{places, said_of};
 ghost use Rattle.bridge_numbers.specs.Answers.{three, seam_numbers};
 
-use crate::telling::Said;
-use decoder::{Opening, Total};
-use find::Match;
-use index_build::Building;
-use place::Placed;
-use terms::{Checked, Decoder, First, Point, Refusal, Written};
+use crate::telling::{PLACES, Said};
+use decoder::Totals;
+use place::Place;
+use terms::{Cause, Decoder, First, Point, Refusal};
 use utf8_pending::Seam;
+
+// So many numbers, and 0 in the places behind them.
+fn say<const N: usize>(numbers: [usize; N]) -> Said
+    requires { N ≤ places }
+    ensures { result ≡ said_of numbers.entry }
+{
+    let mut all = [0; PLACES];
+    all[..N].copy_from_slice(&numbers);
+    Said {
+        numbers: all,
+        count: N,
+    }
+}
 
 // The number of the refusal, then its values.
 pub fn say_refusal(r: Refusal) -> Said
@@ -25,72 +36,36 @@ pub fn say_refusal(r: Refusal) -> Said
             start,
             length,
             cause,
-        } => Said {
-            numbers: [1, start, length, cause as usize, 0],
-            count: 4,
-        },
-        Refusal::OverLimit => Said {
-            numbers: [2, 0, 0, 0, 0],
-            count: 1,
-        },
-        Refusal::NoRoom { needed } => Said {
-            numbers: [3, needed, 0, 0, 0],
-            count: 2,
-        },
-        Refusal::PastEnd => Said {
-            numbers: [4, 0, 0, 0, 0],
-            count: 1,
-        },
-        Refusal::Inside => Said {
-            numbers: [5, 0, 0, 0, 0],
-            count: 1,
-        },
-        Refusal::Unusable { checkpoint } => Said {
-            numbers: [6, checkpoint, 0, 0, 0],
-            count: 2,
-        },
-        Refusal::ListRoom => Said {
-            numbers: [7, 0, 0, 0, 0],
-            count: 1,
-        },
-        Refusal::BadState => Said {
-            numbers: [8, 0, 0, 0, 0],
-            count: 1,
-        },
-        Refusal::NoScalar { position } => Said {
-            numbers: [9, position, 0, 0, 0],
-            count: 2,
-        },
-        Refusal::NotInPage { offset } => Said {
-            numbers: [10, offset, 0, 0, 0],
-            count: 2,
-        },
+        } => say([1, start, length, cause.number() as usize]),
+        Refusal::OverLimit => say([2]),
+        Refusal::NoRoom { needed } => say([3, needed]),
+        Refusal::PastEnd => say([4]),
+        Refusal::Inside => say([5]),
+        Refusal::Unusable { checkpoint } => say([6, checkpoint]),
+        Refusal::ListRoom => say([7]),
+        Refusal::BadState => say([8]),
+        Refusal::NoScalar { position } => say([9, position]),
+        Refusal::NotInPage { offset } => say([10, offset]),
     }
 }
 
 // 0, or the refusal.
-pub fn say_checked(a: Checked) -> Said
+pub fn say_checked(a: Result<(), Refusal>) -> Said
     ensures { result ≡ said_of (told_checked a) }
 {
     match a {
-        Checked::WellFormed => Said {
-            numbers: [0, 0, 0, 0, 0],
-            count: 1,
-        },
-        Checked::Refused(r) => say_refusal(r),
+        Ok(()) => say([0]),
+        Err(r) => say_refusal(r),
     }
 }
 
 // 0 and how many were written, or the refusal.
-pub fn say_written(a: Written) -> Said
+pub fn say_written(a: Result<usize, Refusal>) -> Said
     ensures { result ≡ said_of (told_written a) }
 {
     match a {
-        Written::Count(n) => Said {
-            numbers: [0, n, 0, 0, 0],
-            count: 2,
-        },
-        Written::Refused(r) => say_refusal(r),
+        Ok(n) => say([0, n]),
+        Err(r) => say_refusal(r),
     }
 }
 
@@ -99,106 +74,51 @@ pub fn say_first(a: First) -> Said
     ensures { result ≡ said_of (told_first a) }
 {
     match a {
-        First::Nothing => Said {
-            numbers: [0, 0, 0, 0, 0],
-            count: 0,
-        },
-        First::Whole(n) => Said {
-            numbers: [0, n, 1, 0, 0],
-            count: 4,
-        },
-        First::Damage(n, cause) => Said {
-            numbers: [1, n, 1, cause as usize, 0],
-            count: 4,
-        },
-        First::Begun(n) => Said {
-            numbers: [1, n, 0, First::ENDED as usize, 0],
-            count: 4,
-        },
+        First::Nothing => say([]),
+        First::Whole(n) => say([0, n, 1, 0]),
+        First::Damage(n, cause) => say([1, n, 1, cause.number() as usize]),
+        First::Begun(n) => say([1, n, 0, Cause::Ended.number() as usize]),
     }
 }
 
-// The number of the code point, and its size.
-pub fn say_point(p: Point) -> Said
-    ensures { result ≡ said_of (p.number ∷ p.size ∷ []) }
+// The number of the code point, and its size; both are 0 where there is none.
+pub fn say_point(p: Option<Point>) -> Said
+    ensures { result ≡ said_of (told_point p) }
 {
-    Said {
-        numbers: [p.number as usize, p.size, 0, 0, 0],
-        count: 2,
+    match p {
+        None => say([0, 0]),
+        Some(p) => say([p.number as usize, p.size]),
     }
 }
 
 // 0 and the four counts of the place, or the refusal.
-pub fn say_placed(a: Placed) -> Said
+pub fn say_placed(a: Result<Place, Refusal>) -> Said
     ensures { result ≡ said_of (told_placed a) }
 {
     match a {
-        Placed::At(p) => Said {
-            numbers: [0, p.bytes, p.units, p.points, p.lines],
-            count: 5,
-        },
-        Placed::Refused(r) => say_refusal(r),
+        Ok(p) => say([0, p.bytes, p.units, p.points, p.lines]),
+        Err(r) => say_refusal(r),
     }
 }
 
 // 0 and the offset of the match, 0 alone where there is none, or the refusal.
-pub fn say_match(m: Match) -> Said
+pub fn say_match(m: Result<Option<usize>, Refusal>) -> Said
     ensures { result ≡ said_of (told_match m) }
 {
     match m {
-        Match::At(k) => Said {
-            numbers: [0, k, 0, 0, 0],
-            count: 2,
-        },
-        Match::Absent => Said {
-            numbers: [0, 0, 0, 0, 0],
-            count: 1,
-        },
-        Match::Refused(r) => say_refusal(r),
-    }
-}
-
-// 0, or the refusal.
-pub fn say_opening(a: Opening) -> Said
-    ensures { result ≡ said_of (told_opening a) }
-{
-    match a {
-        Opening::Ready => Said {
-            numbers: [0, 0, 0, 0, 0],
-            count: 1,
-        },
-        Opening::Refused(r) => say_refusal(r),
+        Ok(Some(k)) => say([0, k]),
+        Ok(None) => say([0]),
+        Err(r) => say_refusal(r),
     }
 }
 
 // 0, how many were written, and the three totals; or the refusal.
-pub fn say_total(a: Total) -> Said
+pub fn say_total(a: Result<Totals, Refusal>) -> Said
     ensures { result ≡ said_of (told_total a) }
 {
     match a {
-        Total::Given {
-            written,
-            whole,
-            damaged,
-            count,
-        } => Said {
-            numbers: [0, written, whole, damaged, count],
-            count: 5,
-        },
-        Total::Refused(r) => say_refusal(r),
-    }
-}
-
-// 0, or the refusal.
-pub fn say_building(a: Building) -> Said
-    ensures { result ≡ said_of (told_building a) }
-{
-    match a {
-        Building::Done => Said {
-            numbers: [0, 0, 0, 0, 0],
-            count: 1,
-        },
-        Building::Refused(r) => say_refusal(r),
+        Ok(t) => say([0, t.written, t.whole, t.damaged, t.count]),
+        Err(r) => say_refusal(r),
     }
 }
 
@@ -207,37 +127,25 @@ pub fn say_seam(a: Seam) -> Said
     ensures { result ≡ said_of (seam_numbers a) }
 {
     let b = a.bytes;
-    Said {
-        numbers: [
-            a.size,
-            crate::telling::wide(b[0]),
-            crate::telling::wide(b[1]),
-            crate::telling::wide(b[2]),
-            crate::telling::wide(b[3]),
-        ],
-        count: 5,
-    }
+    say([
+        a.size,
+        b[0] as usize,
+        b[1] as usize,
+        b[2] as usize,
+        b[3] as usize,
+    ])
 }
 
 // The three held bytes.
 pub fn say_held(held: [u8; Decoder::PENDING]) -> Said
     ensures { result ≡ said_of (three held) }
 {
-    Said {
-        numbers: [
-            crate::telling::wide(held[0]),
-            crate::telling::wide(held[1]),
-            crate::telling::wide(held[2]),
-            0,
-            0,
-        ],
-        count: 3,
-    }
+    say([held[0] as usize, held[1] as usize, held[2] as usize])
 }
 
 // 1 for yes, 0 for no.
 pub fn number_of(yes: bool) -> usize
     ensures { result ≡ bit yes }
 {
-    if yes { 1 } else { 0 }
+    usize::from(yes)
 }

@@ -2,40 +2,29 @@
 ghost use Rattle.std.specs.Prelude.{◌%◌, ◌≤◌, ◌≡◌, length, get_or};
 ghost use Rattle.index_checkpoint.specs.Checkpoints.{place_of};
 ghost use Rattle.bridge_numbers.specs.Telling.{put};
-ghost use Rattle.bridge_numbers.specs.States.{is_state, held_of, decoder_of, decoder_numbers, is_unit_state, unit_decoder_of, unit_decoder_numbers, builder_of, builder_numbers, kept, offset_of, first_of};
+ghost use Rattle.bridge_numbers.specs.States.{is_state, held_of, decoder_of, decoder_numbers, is_unit_state, unit_decoder_of, unit_decoder_numbers, builder_of, builder_numbers, kept, offset_of, cause_of, first_of};
 
 use decoder_from_utf16::UnitDecoder;
 use index_build::Builder;
 use place::{Bytes, Lines, Offset, Place, Points, Units};
-use terms::{Decoder, First};
+use terms::{Cause, Decoder, First};
 
 // Are there so many numbers, and at least three, of which the first three are bytes?
 pub fn is_state(numbers: &[usize], n: usize) -> bool
     ensures { result ≡ is_state n numbers.now }
 {
-    if numbers.len() < n {
-        return false;
-    }
-    if numbers.len() < Decoder::PENDING {
-        return false;
-    }
-    if 256 <= numbers[0] {
-        return false;
-    }
-    if 256 <= numbers[1] {
-        return false;
-    }
-    numbers[2] < 256
+    n <= numbers.len()
+        && Decoder::PENDING <= numbers.len()
+        && numbers[0] < 256
+        && numbers[1] < 256
+        && numbers[2] < 256
 }
 
 // The number at a place, 0 where there is none.
 fn number_at(numbers: &[usize], i: usize) -> usize
     ensures { result ≡ get_or numbers.now i 0 }
 {
-    if numbers.len() <= i {
-        return 0;
-    }
-    numbers[i]
+    numbers.get(i).copied().unwrap_or(0)
 }
 
 // Its last eight bits.
@@ -77,11 +66,7 @@ fn copy(numbers: &[usize], out: &mut [usize])
     requires { length numbers.now ≤ length out.old }
     ensures { out.new ≡ put numbers.now out.old }
 {
-    let mut i = 0;
-    while i < numbers.len() {
-        out[i] = numbers[i];
-        i += 1;
-    }
+    out[..numbers.len()].copy_from_slice(numbers);
 }
 
 // Keeps a decoder's state in a slice that has the places for it.
@@ -93,9 +78,9 @@ pub fn keep_decoder(d: Decoder, state: &mut [usize])
     }
     let held = d.held;
     let numbers = [
-        crate::telling::wide(held[0]),
-        crate::telling::wide(held[1]),
-        crate::telling::wide(held[2]),
+        held[0] as usize,
+        held[1] as usize,
+        held[2] as usize,
         d.pending,
         d.taken,
         d.whole,
@@ -110,10 +95,7 @@ pub fn keep_decoder(d: Decoder, state: &mut [usize])
 pub fn is_unit_state(numbers: &[usize]) -> bool
     ensures { result ≡ is_unit_state numbers.now }
 {
-    if numbers.len() < 7 {
-        return false;
-    }
-    numbers[0] < 0x10000
+    7 <= numbers.len() && numbers[0] < 0x10000
 }
 
 // The state of the decoder of units: held, by its last sixteen bits, pending, taken, whole, damaged, count, room.
@@ -175,9 +157,9 @@ pub fn keep_builder(b: Builder, state: &mut [usize])
     }
     let held = b.held;
     let numbers = [
-        crate::telling::wide(held[0]),
-        crate::telling::wide(held[1]),
-        crate::telling::wide(held[2]),
+        held[0] as usize,
+        held[1] as usize,
+        held[2] as usize,
         b.pending,
         b.taken,
         b.units,
@@ -203,30 +185,34 @@ pub fn place_of(numbers: &[usize]) -> Place
 pub fn offset_of(kind: usize, n: usize) -> Offset
     ensures { result ≡ offset_of kind n }
 {
-    if kind == 0 {
-        return Offset::Byte(Bytes(n));
+    match kind {
+        0 => Offset::Byte(Bytes(n)),
+        1 => Offset::Unit(Units(n)),
+        2 => Offset::Point(Points(n)),
+        _ => Offset::Line(Lines(n)),
     }
-    if kind == 1 {
-        return Offset::Unit(Units(n));
+}
+
+// The cause of a number: 1 to 3, else the end of the text.
+fn cause_of(number: u32) -> Cause
+    ensures { result ≡ cause_of number }
+{
+    match number {
+        1 => Cause::Stray,
+        2 => Cause::Foreign,
+        3 => Cause::Stopped,
+        _ => Cause::Ended,
     }
-    if kind == 2 {
-        return Offset::Point(Points(n));
-    }
-    Offset::Line(Lines(n))
 }
 
 // What stands first, of a size: 0 nothing, 1 whole, 2 damage of a cause, else begun.
 pub fn first_of(kind: usize, n: usize, cause: u32) -> First
     ensures { result ≡ first_of kind n cause }
 {
-    if kind == 0 {
-        return First::Nothing;
+    match kind {
+        0 => First::Nothing,
+        1 => First::Whole(n),
+        2 => First::Damage(n, cause_of(cause)),
+        _ => First::Begun(n),
     }
-    if kind == 1 {
-        return First::Whole(n);
-    }
-    if kind == 2 {
-        return First::Damage(n, cause);
-    }
-    First::Begun(n)
 }

@@ -1,8 +1,0 @@
--- By the answer.
-use Rattle.bridge_numbers.proofs.answers.say_placed.Goals as goal
-
-pub returns-in-At : goal.returns-in-At
-returns-in-At c = rw c.in-At.is
-
-pub returns-in-Refused : goal.returns-in-Refused
-returns-in-Refused c = rw c.in-Refused.is c.say_refusal.ensures

@@ -1,5 +1,0 @@
--- Each number is read by a call.
-use Rattle.bridge_numbers.proofs.states.place_of.Goals as goal
-
-pub returns : goal.returns
-returns c = rw (c.number_at.ensures, c.number_at-2.ensures, c.number_at-3.ensures, c.number_at-4.ensures)
