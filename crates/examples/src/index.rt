@@ -1,12 +1,13 @@
 // An index of a text: the calls of moxandril::index.
-use moxandril::index::{Builder, Building};
+use moxandril::Refusal;
+use moxandril::index::Builder;
 use moxandril::places::{Bytes, Lines, Points, Units};
 use std::io;
 
-fn built(rt: &impl Print, answer: Building) -> io::Result<()> {
+fn built(rt: &impl Print, answer: Result<(), Refusal>) -> io::Result<()> {
     match answer {
-        Building::Done => print!(rt; "index::feed, finish -> done row"),
-        Building::Refused(r) => crate::show::refused(rt, r),
+        Ok(()) => print!(rt; "index::feed, finish -> done row"),
+        Err(r) => crate::show::refused(rt, r),
     }
 }
 

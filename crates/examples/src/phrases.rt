@@ -1,13 +1,13 @@
 // Where a phrase stands in a text of bytes: the calls of moxandril::phrases.
 use crate::show::{bytes, of_bytes};
-use moxandril::phrases::Match;
+use moxandril::Refusal;
 use std::io;
 
-fn found(rt: &impl Print, m: Match) -> io::Result<()> {
+fn found(rt: &impl Print, m: Result<Option<usize>, Refusal>) -> io::Result<()> {
     match m {
-        Match::At(k) => print!(rt; " at {k}"),
-        Match::Absent => print!(rt; " absent"),
-        Match::Refused(r) => crate::show::refused(rt, r),
+        Ok(Some(k)) => print!(rt; " at {k}"),
+        Ok(None) => print!(rt; " absent"),
+        Err(r) => crate::show::refused(rt, r),
     }
 }
 

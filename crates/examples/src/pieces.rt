@@ -1,11 +1,12 @@
 // A text that comes in pieces, and the watch: the calls of moxandril::pieces.
-use moxandril::pieces::{Decoder, Opening, Total};
+use moxandril::Refusal;
+use moxandril::pieces::{Decoder, Totals};
 use std::io;
 
-pub(crate) fn opened(rt: &impl Print, answer: Opening) -> io::Result<()> {
+pub(crate) fn opened(rt: &impl Print, answer: Result<(), Refusal>) -> io::Result<()> {
     match answer {
-        Opening::Ready => print!(rt; " ready")?,
-        Opening::Refused(r) => crate::show::refused(rt, r)?,
+        Ok(()) => print!(rt; " ready")?,
+        Err(r) => crate::show::refused(rt, r)?,
     }
     println!(rt)
 }
@@ -27,16 +28,11 @@ fn feed(rt: &impl Print, state: Decoder, piece: &[u8], list: &mut [u32]) -> io::
 }
 
 // How many places were written; then the elements in whole segments, the damaged ones and the damages.
-pub(crate) fn totals(rt: &impl Print, name: &str, answer: Total) -> io::Result<()> {
+pub(crate) fn totals(rt: &impl Print, name: &str, answer: Result<Totals, Refusal>) -> io::Result<()> {
     print!(rt; "{name}")?;
     match answer {
-        Total::Given {
-            written,
-            whole,
-            damaged,
-            count,
-        } => print!(rt; " {written} {whole} {damaged} {count}")?,
-        Total::Refused(r) => crate::show::refused(rt, r)?,
+        Ok(all) => print!(rt; " {} {} {} {}", all.written, all.whole, all.damaged, all.count)?,
+        Err(r) => crate::show::refused(rt, r)?,
     }
     print!(rt; ", list")
 }

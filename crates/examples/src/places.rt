@@ -1,12 +1,13 @@
 // Places in a text of bytes, and cutting: the calls of moxandril::places. A place is its bytes, units, code points and lines.
 use crate::show::{bytes, of_number};
-use moxandril::places::{Bytes, Lines, Offset, Place, Placed, Points, Units};
+use moxandril::Refusal;
+use moxandril::places::{Bytes, Lines, Offset, Place, Points, Units};
 use std::io;
 
-pub(crate) fn found(rt: &impl Print, p: Placed) -> io::Result<()> {
+pub(crate) fn found(rt: &impl Print, p: Result<Place, Refusal>) -> io::Result<()> {
     match p {
-        Placed::At(q) => print!(rt; " at {} {} {} {}", q.bytes, q.units, q.points, q.lines),
-        Placed::Refused(r) => crate::show::refused(rt, r),
+        Ok(q) => print!(rt; " at {} {} {} {}", q.bytes, q.units, q.points, q.lines),
+        Err(r) => crate::show::refused(rt, r),
     }
 }
 

@@ -1,5 +1,5 @@
 // Printing: a call's name and what it is asked, texts in hexadecimal, and what came.
-use moxandril::{Checked, First, Point, Refusal, Written};
+use moxandril::{First, Point, Refusal};
 use std::io;
 
 pub(crate) fn number(rt: &impl Print, n: usize) -> io::Result<()> {
@@ -91,7 +91,7 @@ pub(crate) fn refused(rt: &impl Print, r: Refusal) -> io::Result<()> {
             start,
             length,
             cause,
-        } => print!(rt; " {start} {length} {cause}"),
+        } => print!(rt; " {start} {length} {}", cause.number()),
         Refusal::NoRoom { needed } => number(rt, needed),
         Refusal::Unusable { checkpoint } => number(rt, checkpoint),
         Refusal::NoScalar { position } => number(rt, position),
@@ -108,43 +108,45 @@ pub(crate) fn first(rt: &impl Print, f: First) -> io::Result<()> {
         First::Damage(_, _) => print!(rt; " damage")?,
         First::Begun(_) => print!(rt; " begun")?,
     }
-    print!(rt; " {} {}", f.size(), f.cause())
+    let cause = f.cause().map_or(0, |cause| cause.number());
+    print!(rt; " {} {cause}", f.size())
 }
 
-// A code point and its size.
-pub(crate) fn point(rt: &impl Print, p: Point) -> io::Result<()> {
-    code(rt, p.number)?;
-    number(rt, p.size)
+// A code point and its size, 0 and 0 where there is none.
+pub(crate) fn point(rt: &impl Print, p: Option<Point>) -> io::Result<()> {
+    let (c, size) = p.map_or((0, 0), |p| (p.number, p.size));
+    code(rt, c)?;
+    number(rt, size)
 }
 
-pub(crate) fn checked(rt: &impl Print, c: Checked) -> io::Result<()> {
+pub(crate) fn checked(rt: &impl Print, c: Result<(), Refusal>) -> io::Result<()> {
     match c {
-        Checked::WellFormed => print!(rt; " well-formed")?,
-        Checked::Refused(r) => refused(rt, r)?,
+        Ok(()) => print!(rt; " well-formed")?,
+        Err(r) => refused(rt, r)?,
     }
     println!(rt)
 }
 
-pub(crate) fn wrote_bytes(rt: &impl Print, answer: Written, out: &[u8]) -> io::Result<()> {
+pub(crate) fn wrote_bytes(rt: &impl Print, answer: Result<usize, Refusal>, out: &[u8]) -> io::Result<()> {
     match answer {
-        Written::Count(n) => first_bytes(rt, out, n)?,
-        Written::Refused(r) => refused(rt, r)?,
+        Ok(n) => first_bytes(rt, out, n)?,
+        Err(r) => refused(rt, r)?,
     }
     println!(rt)
 }
 
-pub(crate) fn wrote_units(rt: &impl Print, answer: Written, out: &[u16]) -> io::Result<()> {
+pub(crate) fn wrote_units(rt: &impl Print, answer: Result<usize, Refusal>, out: &[u16]) -> io::Result<()> {
     match answer {
-        Written::Count(n) => first_units(rt, out, n)?,
-        Written::Refused(r) => refused(rt, r)?,
+        Ok(n) => first_units(rt, out, n)?,
+        Err(r) => refused(rt, r)?,
     }
     println!(rt)
 }
 
-pub(crate) fn wrote_points(rt: &impl Print, answer: Written, out: &[u32]) -> io::Result<()> {
+pub(crate) fn wrote_points(rt: &impl Print, answer: Result<usize, Refusal>, out: &[u32]) -> io::Result<()> {
     match answer {
-        Written::Count(n) => first_points(rt, out, n)?,
-        Written::Refused(r) => refused(rt, r)?,
+        Ok(n) => first_points(rt, out, n)?,
+        Err(r) => refused(rt, r)?,
     }
     println!(rt)
 }

@@ -5,10 +5,9 @@ ghost use Rattle.std.specs.Prelude.{◌≡◌, length};
 ghost use Rattle.decoder.specs.Room.{most_fed};
 ghost use Rattle.report.specs.Inside.Going.{Goes};
 
-use decoder::Total;
 use std::io;
 use std::io::Read;
-use terms::{Decoder, Refusal, Written};
+use terms::{Decoder, Refusal};
 
 // How the input stands: there may be more, or it ended in one way or another.
 #[derive(Clone, Copy)]
@@ -57,11 +56,11 @@ fn take_piece(
     }
     let fed = decoder::feed(state, &piece[..n], out, list);
     match fed.answer {
-        Written::Count(_) => Taken {
+        Ok(_) => Taken {
             end: End::More,
             state: fed.state,
         },
-        Written::Refused(r) => Taken {
+        Err(r) => Taken {
             end: End::Refused(r),
             state,
         },
@@ -102,16 +101,11 @@ fn refused(rt: &impl Print, r: Refusal) -> io::Result<()> {
 fn totals(rt: &impl Print, state: Decoder, list: &mut [u32]) -> io::Result<()> {
     let mut out = [0u8; 3];
     match decoder::finish(state, &mut out, list).answer {
-        Total::Given {
-            written: _,
-            whole,
-            damaged,
-            count,
-        } => {
-            entries(rt, list, count)?;
-            println!(rt; "total {count} whole {whole} damaged {damaged}")
+        Ok(all) => {
+            entries(rt, list, all.count)?;
+            println!(rt; "total {} whole {} damaged {}", all.count, all.whole, all.damaged)
         }
-        Total::Refused(r) => refused(rt, r),
+        Err(r) => refused(rt, r),
     }
 }
 
