@@ -64,34 +64,6 @@ fn need_bytes(text: &[u16]) -> usize
     total
 }
 
-// A code point as bytes, where there is room for it: without the test of the room, which a walk would make for each.
-fn put_sequence(out: &mut [u8], c: u32) -> usize
-    requires c_value { is_scalar c ≡ true }
-    requires c_in_bounds { length (sequence c) ≤ length out.old }
-    ensures { Puts (sequence c) out.old out.new result }
-{
-    if c < 0x80 {
-        out[0] = c as u8;
-        return 1;
-    }
-    if c < 0x800 {
-        out[0] = (0xC0 + c / 0x40) as u8;
-        out[1] = (0x80 + c % 0x40) as u8;
-        return 2;
-    }
-    if c < 0x10000 {
-        out[0] = (0xE0 + c / 0x1000) as u8;
-        out[1] = (0x80 + c / 0x40 % 0x40) as u8;
-        out[2] = (0x80 + c % 0x40) as u8;
-        return 3;
-    }
-    out[0] = (0xF0 + c / 0x40000) as u8;
-    out[1] = (0x80 + c / 0x1000 % 0x40) as u8;
-    out[2] = (0x80 + c / 0x40 % 0x40) as u8;
-    out[3] = (0x80 + c % 0x40) as u8;
-    4
-}
-
 // The bytes of the code points that begin in front of a place.
 fn write_segments(text: &[u16], stop: usize, out: &mut [u8]) -> Part
     requires { (0 < stop) × (stop ≤ length text.now) × (length (converted utf16 utf8 text.now) ≤ length out.old) }
@@ -101,7 +73,7 @@ fn write_segments(text: &[u16], stop: usize, out: &mut [u8]) -> Part
     let mut done: usize = 0;
     while at < stop {
         let p = utf16::point(&text[at..]).unwrap();
-        done += put_sequence(&mut out[done..], p.number);
+        done += convert_point::put_sequence(&mut out[done..], p.number);
         at += p.size;
     }
     Part {

@@ -1,12 +1,11 @@
--- One code point at the start of an output: its elements are stored one by one where there is room, and a walk that has room puts them all.
-use mathlib.Core.Path.{◌≡◌, refl, sym, ap, ◌∙◌}
-use Prim.Native.Nat.{ℕ, zero, ◌+◌, ◌≤◌, ◌<◌}
-use mathlib.Core.Bool.{Bool, true, false, ◌||◌}
+-- One code point at the start of an output: elements that are stored one by one, and a walk that has room puts them all.
+use mathlib.Core.Path.{◌≡◌, sym, ap, ◌∙◌}
+use Prim.Native.Nat.{ℕ, zero, ◌+◌, ◌≤◌}
+use mathlib.Core.Bool.{true}
 use mathlib.Core.List.{List}
 use lib.ListN.{length}
 use lib.Seq.{sets}
-use lib.Dec.{ltb}
-use borrow.Author.Tests.{lt-ltb, le-ltb}
+use borrow.Author.Tests.{le-ltb}
 use native.Mathlib.Omega.{arith}
 use Rattle.theory.proofs.Rows.{sets-start}
 use Rattle.terms.specs.Form.{is_scalar, Form, converted}
@@ -20,23 +19,6 @@ puts_sets vs ws out e h = record { count = ap length (sym e); output = ap (sets 
 module _ (G : Form) (c : ℕ) (out : List ℕ) where
   pub fits : length (G.write c) ≤ length out → c ≤ 0x10FFFF → fitting G (length out) c ≡ G.write c
   fits h k = rw (le-ltb (length out) (length (G.write c)) h, le-ltb 0x10FFFF c k)
-
-  nothing : ltb (length out) (length (G.write c)) || ltb 0x10FFFF c ≡ true → Puts (fitting G (length out) c) out out 0
-  nothing e = rw e (record { count = refl; output = refl })
-
-  module _ (ws : List ℕ) (e : G.write c ≡ ws) where
-    pub put-stored : length ws ≤ length out → c ≤ 0x10FFFF → Puts (fitting G (length out) c) out (sets out zero ws) (length ws)
-    put-stored h k = rw (fits (rw e h) k) (puts_sets (G.write c) ws out e (rw e h))
-
-    pub put-short : length out < length ws → Puts (fitting G (length out) c) out out 0
-    put-short h = nothing (rw (e, lt-ltb (length out) (length ws) h))
-
-  pub put-above : 0x10FFFF < c → Puts (fitting G (length out) c) out out 0
-  put-above h = nothing (rw (lt-ltb 0x10FFFF c h) (either (ltb (length out) (length (G.write c)))))
-    where
-      either : (b : Bool) → b || true ≡ true
-      either true = refl
-      either false = refl
 
   -- a scalar value that has room
   put_whole : is_scalar c ≡ true → length (G.write c) ≤ length out → (out' : List ℕ) (n : ℕ) → Puts (fitting G (length out) c) out out' n → Puts (G.write c) out out' n

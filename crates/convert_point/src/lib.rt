@@ -2,7 +2,7 @@
 // take; and a whole text of any form in any other.
 #![tactic(auto)]
 
-ghost use Rattle.std.specs.Prelude.{◌≡◌, length};
+ghost use Rattle.std.specs.Prelude.{◌≡◌, ◌≤◌, length};
 ghost use Rattle.utf8.specs.Scalar.{sequence, utf8};
 ghost use Rattle.utf16.specs.Scalar.{pair, utf16};
 ghost use Rattle.code_points.specs.Points.{code_points};
@@ -93,45 +93,42 @@ pub fn most(from: Target, to: Target, n: usize) -> usize
     each * n
 }
 
-// The bytes of a code point at the start of an output, and their number; none without room for them, or above 0x10FFFF.
-pub fn put_bytes(out: &mut [u8], c: u32) -> usize
-    ensures { Puts (fitting utf8 (length out.old) c) out.old out.new result }
+// A code point as bytes, where there is room for it: without the test of the room, which a walk would make for each.
+pub fn put_sequence(out: &mut [u8], c: u32) -> usize
+    requires c_value { c ≤ 0x10FFFF }
+    requires c_in_bounds { length (sequence c) ≤ length out.old }
+    ensures { Puts (sequence c) out.old out.new result }
 {
     if c < 0x80 {
-        if out.len() < 1 {
-            return 0;
-        }
         out[0] = c as u8;
         return 1;
     }
     if c < 0x800 {
-        if out.len() < 2 {
-            return 0;
-        }
         out[0] = (0xC0 + c / 0x40) as u8;
         out[1] = (0x80 + c % 0x40) as u8;
         return 2;
     }
     if c < 0x10000 {
-        if out.len() < 3 {
-            return 0;
-        }
         out[0] = (0xE0 + c / 0x1000) as u8;
         out[1] = (0x80 + c / 0x40 % 0x40) as u8;
         out[2] = (0x80 + c % 0x40) as u8;
         return 3;
-    }
-    if 0x10FFFF < c {
-        return 0;
-    }
-    if out.len() < 4 {
-        return 0;
     }
     out[0] = (0xF0 + c / 0x40000) as u8;
     out[1] = (0x80 + c / 0x1000 % 0x40) as u8;
     out[2] = (0x80 + c / 0x40 % 0x40) as u8;
     out[3] = (0x80 + c % 0x40) as u8;
     4
+}
+
+// The bytes of a code point at the start of an output, and their number; none without room for them, or above 0x10FFFF.
+pub fn put_bytes(out: &mut [u8], c: u32) -> usize
+    ensures { Puts (fitting utf8 (length out.old) c) out.old out.new result }
+{
+    if out.len() < bytes_of(c) || 0x10FFFF < c {
+        return 0;
+    }
+    put_sequence(out, c)
 }
 
 // The units of a code point at the start of an output, and their number; none without room for them, or above 0x10FFFF.

@@ -5,17 +5,13 @@ use Rattle.terms.proofs.WalkWrites.{Met}
 use Rattle.utf8.specs.Scalar.{utf8}
 use Rattle.utf16.specs.Scalar.{utf16}
 use Rattle.utf16.proofs.FaithfulForm.{utf16-faithful}
-use Rattle.convert_point.proofs.RestOfText.{met_at, point_there}
-use Rattle.convert_point.proofs.WalkInPasses.{Passed, passed-few, passed-next, passed-passes}
+use Rattle.convert_point.proofs.RestOfText.{met_at}
+use Rattle.convert_point.proofs.WalkInPasses.{Passed, passed-few, passed-next}
 use Rattle.convert_point.specs.declared.Target.TheVariants.{Bytes, Units}
 use Rattle.convert_point.proofs.Enough.{text_few}
 use mathlib.Core.Path.{sym, ◌∙◌}
 use Rattle.convert_from_utf16.proofs.count_segments.Goals.{After-bytes_of-places, After-unwrap-p}
 use Rattle.convert_from_utf16.proofs.count_segments.Goals as goal
-
-pub unwrap-p-requires : goal.unwrap-p-requires
-unwrap-p-requires c =
-    point_there utf16 c.args.text.now c.loop-at.at (omega (arith, c.loop-at-test.true, c.requires)) c.point.result c.point.ensures
 
 -- the code point that was read
 here : (c : After-unwrap-p)
@@ -36,17 +32,6 @@ overflow_add-places c =
     let h = here (goal.at.overflow_add-places c).After-unwrap-p in
     omega (arith, passed-few utf16 utf8 t _ _ (after c h), text_few Units Bytes t, c.requires)
 
-pub overflow_add-at : goal.overflow_add-at
-overflow_add-at c = let m = here (goal.at.overflow_add-at c).After-unwrap-p in omega (arith, m.inside)
-
-pub loop-at-smaller : goal.loop-at-smaller
-loop-at-smaller c = let m = here (goal.at.loop-at-smaller c).After-unwrap-p in omega (arith, m.some, m.inside)
-
 pub loop-at-preserved : goal.loop-at-preserved
 loop-at-preserved c =
     after (goal.at.loop-at-preserved c).After-bytes_of-places (here (goal.at.loop-at-preserved c).After-unwrap-p)
-
-pub returns : goal.returns
-returns c =
-    passed-passes utf16 utf8 c.args.text.now c.loop-at.at c.loop-at.places c.loop-at.invariant
-    (omega (arith, c.loop-at-test.false, c.requires))
