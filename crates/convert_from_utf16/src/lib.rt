@@ -1,12 +1,12 @@
 // A whole text of UTF-16 units in the other forms, strict and repairing, and its repair, into a lent output.
 #![tactic(auto)]
 
-ghost use Rattle.std.specs.Prelude.{◌≡◌, true, ◌≤◌, ◌<◌, length};
+ghost use Rattle.std.specs.Prelude.{◌≡◌, ◌≤◌, ◌<◌, length};
 ghost use Rattle.terms.specs.Limits.{limit};
-ghost use Rattle.terms.specs.Form.{is_scalar, repaired, converted};
+ghost use Rattle.terms.specs.Form.{repaired, converted};
 ghost use Rattle.terms.specs.Strict.{damaged};
 ghost use Rattle.terms.specs.Writing.{Writes, repair_says, convert_says};
-ghost use Rattle.utf8.specs.Scalar.{sequence, utf8};
+ghost use Rattle.utf8.specs.Scalar.{utf8};
 ghost use Rattle.utf16.specs.Scalar.{utf16};
 ghost use Rattle.code_points.specs.Points.{code_points};
 ghost use Rattle.convert_point.specs.Puts.{Puts};
@@ -28,10 +28,7 @@ fn count_segments(text: &[u16], stop: usize) -> Part
         places += convert_point::bytes_of(p.number);
         at += p.size;
     }
-    Part {
-        read: at,
-        places: places,
-    }
+    Part { read: at, places }
 }
 
 // How many bytes the beginning of a text takes: a block of units that stand alone at once, or the code points that begin in its length.
@@ -42,11 +39,7 @@ fn count_part(text: &[u16]) -> Part
     if let Some(p) = convert_utf16_blocks::count_block(text) {
         return p;
     }
-    let size = text.len();
-    if size < 128 {
-        return count_segments(text, size);
-    }
-    count_segments(text, 128)
+    count_segments(text, text.len().min(128))
 }
 
 // How many bytes a text takes.
@@ -90,11 +83,7 @@ fn write_sixteen(text: &[u16], out: &mut [u8]) -> Part
     if let Some(p) = convert_utf16_blocks::put_sixteen(text, out) {
         return p;
     }
-    let size = text.len();
-    if size < 128 {
-        return write_segments(text, size, out);
-    }
-    write_segments(text, 128, out)
+    write_segments(text, text.len().min(128), out)
 }
 
 // The bytes of the beginning of a text: a block of units that stand alone at once, or less.

@@ -29,12 +29,7 @@ returns-in-Some c =
     block-passes-to t (sixteen room t) (sixteen-is t room).0 (sixteen-is t room).1 _ _ p.counts.read_is p.counts.places_is c.in-Some.ensures.some
     a.out.now c.put_sixteen.new.out p.output
 
-pub returns-then-size-lt128 : goal.returns-then-size-lt128
-returns-then-size-lt128 c =
-    let a = c.args in
-    subst (λ (out : List ℕ). PassesTo utf16 utf8 a.text.now out c.write_segments.new.out c.write_segments.result.read c.write_segments.result.places) (untouched (goal.at.returns-then-size-lt128 c).In_default) c.write_segments.ensures
-
 pub returns : goal.returns
 returns c =
     let a = c.args in
-    subst (λ (out : List ℕ). PassesTo utf16 utf8 a.text.now out c.write_segments-2.new.out c.write_segments-2.result.read c.write_segments-2.result.places) (untouched (goal.at.returns c).In_default) c.write_segments-2.ensures
+    subst (λ (out : List ℕ). PassesTo utf16 utf8 a.text.now out c.write_segments.new.out c.write_segments.result.read c.write_segments.result.places) (untouched (goal.at.returns c).In_default) c.write_segments.ensures
