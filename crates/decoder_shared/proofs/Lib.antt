@@ -22,3 +22,5 @@ pub mod ToldBack
 pub mod SettledText
 -- The room that is enough for a feed and for finish, over any decoder
 pub mod Enough
+-- The steps of a tally that has room for them are those of its log
+pub mod TallyPlain

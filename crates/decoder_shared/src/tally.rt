@@ -1,11 +1,9 @@
 // What is settled of a text is tallied: its elements in whole segments and in damage, its damages, and their entries.
-ghost use Rattle.std.specs.Prelude.{◌≡◌, List, ℕ, ◌+◌, ◌≤◌};
-ghost use Rattle.terms.specs.Limits.{limit};
-ghost use Rattle.terms.specs.Told.{number_of, size_of};
-ghost use Rattle.decoder_shared.specs.Inside.Steps.{Fits, passed, struck, tallied_as};
-ghost use Rattle.decoder_shared.specs.Inside.Tallying.{log_of, totals_of};
+ghost use Rattle.std.specs.Prelude.{◌≡◌, ◌%◌, ◌^◌};
+ghost use Rattle.terms.specs.Told.{number_of};
+ghost use Rattle.decoder_shared.specs.Inside.Tallying.{passed_by, struck_by, listed_by, taken_by, told_list, totals_of};
 
-use crate::Totals;
+use crate::{Totals, enter};
 use terms::{Cause, First};
 
 // What is kept of the segments so far: elements in whole segments and in damage, and damages.
@@ -23,28 +21,33 @@ pub struct Settled {
     pub size: usize,
 }
 
+// A number of an entry has 32 bits.
+fn entry(n: usize) -> u32
+    ensures { result ≡ n % 2 ^ 32 }
+{
+    (n % 4_294_967_296) as u32
+}
+
 impl Tally {
-    // So many elements in whole segments are counted.
+    // So many elements more in whole segments. Sums are modulo 2^64.
     pub fn pass(self, n: usize) -> Tally
-        requires { self.whole + n ≤ limit }
-        ensures { (list : List ℕ) → log_of result list ≡ passed n (log_of self list) }
+        ensures { result ≡ passed_by self n }
     {
         Tally {
-            whole: self.whole + n,
+            whole: self.whole.wrapping_add(n),
             ..self
         }
     }
 
-    // A damage of so many elements is entered with its cause, where the list has room for it, and counted.
+    // A damage of so many elements is entered with its cause, where the list has room for it, and counted. An entry's numbers are modulo 2^32.
     pub fn strike(self, n: usize, cause: Cause, room: usize, list: &mut [u32]) -> Tally
-        requires { Fits room n (log_of self list.old) }
-        ensures { log_of result list.new ≡ struck room n (number_of cause) (log_of self list.old) }
+        ensures { (result ≡ struck_by self n) × (list.new ≡ listed_by self n (number_of cause) room list.old) }
     {
-        let start = self.whole + self.damaged;
-        crate::enter(list, room, self.count, start as u32, n as u32, cause);
+        let start = self.whole.wrapping_add(self.damaged);
+        enter(list, room, self.count, entry(start), entry(n), cause);
         Tally {
-            damaged: self.damaged + n,
-            count: self.count + 1,
+            damaged: self.damaged.wrapping_add(n),
+            count: self.count.wrapping_add(1),
             ..self
         }
     }
@@ -63,8 +66,7 @@ impl Tally {
 
     // The segment that stands first in a text is tallied, if it is settled.
     pub fn take(self, seg: First, room: usize, list: &mut [u32]) -> Tally
-        requires { Fits room (size_of seg) (log_of self list.old) }
-        ensures { log_of result list.new ≡ tallied_as room seg (log_of self list.old) }
+        ensures { (result ≡ taken_by self seg) × (list.new ≡ told_list self seg room list.old) }
     {
         match seg {
             First::Nothing => self,
