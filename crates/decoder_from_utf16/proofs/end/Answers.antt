@@ -1,5 +1,8 @@
 -- `end` meets its contract: the room first, then a pending half is struck as one damage.
+use Rattle.theory.specs.Table.{ended}
+use Rattle.decoder_shared.specs.Inside.Steps.{Fits}
 use Rattle.decoder_shared.specs.Inside.Tallying.{log_of}
+use Rattle.decoder_shared.proofs.TallyPlain.{strike-plain}
 use Rattle.decoder_from_utf16.proofs.EndOfUnits.{end_none, end_short, end_fits, end-done}
 use Rattle.decoder_from_utf16.proofs.end.Goals as goal
 
@@ -12,12 +15,12 @@ pub returns-then-out-needed : goal.returns-then-out-needed
 returns-then-out-needed c =
     end_short c.args.state c.args.out.now c.args.list.now c.requires c.if-state-eq0.false c.if-out-needed.true
 
-pub strike-all-requires : goal.strike-all-requires
-strike-all-requires c =
-    rw c.tally_of-2.ensures (end_fits c.args.state c.args.out.now c.args.list.now c.requires c.if-state-eq0.false)
-
 pub returns : goal.returns
 returns c =
+    let a = c.args in
+    let fits : Fits a.state.room a.state.pending (log_of c.tally_of-2.result a.list.now)
+    = rw c.tally_of-2.ensures (end_fits a.state a.out.now a.list.now c.requires c.if-state-eq0.false) in
+    let struck = strike-plain c.tally_of-2.result a.state.room a.list.now a.state.pending ended fits c.strike-all.ensures in
     rw c.totals-2.ensures
     (end-done c.args.state c.args.out.now c.args.list.now c.requires c.if-state-eq0.false c.if-out-needed.false _ _ c.put_bytes.ensures
-    (log_of c.strike-all.result c.strike-all.new.list) (rw c.tally_of-2.ensures at c.strike-all.ensures) c.fresh-2.result c.fresh-2.ensures)
+    (log_of c.strike-all.result c.strike-all.new.list) (rw c.tally_of-2.ensures at struck) c.fresh-2.result c.fresh-2.ensures)

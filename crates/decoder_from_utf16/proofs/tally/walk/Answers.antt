@@ -10,6 +10,7 @@ use Rattle.utf16.proofs.RowsOfUnits.{units_division}
 use Rattle.decoder_shared.specs.Inside.Steps.{passed, struck}
 use Rattle.decoder_shared.proofs.TalliedWalk.{Walked, walked_start}
 use Rattle.decoder_shared.specs.Inside.Tallying.{log_of}
+use Rattle.decoder_shared.proofs.TallyPlain.{pass-plain, strike-plain}
 use Rattle.decoder_from_utf16.proofs.TallyOfUnits.{run_room, run-next, Next, next-whole, next-damage, end-nothing, end-begun}
 use borrow.Author.Rules.{rules}
 use Rattle.decoder_from_utf16.proofs.tally.walk.Goals.{After-alone_run-run, After-pass-tally, In-Damage, In-Whole}
@@ -37,18 +38,15 @@ found c =
     let a = c.args in
     run_room a.room a.text.now (log_of a.tally a.list.now) c.loop-n.invariant.1 c.alone_run-run.result c.alone_run-run.ensures.0
 
-pub pass-tally-requires : goal.pass-tally-requires
-pass-tally-requires c = (found c).1
-
 -- behind the run
-ran : (c : After-pass-tally) → let a = c.args in
+ran : (c : After-pass-tally) → c.loop-n.tally.whole + c.alone_run-run.result ≤ limit → let a = c.args in
     Walked units_division a.room a.text.now (log_of a.tally a.list.now) (c.loop-n.at + c.alone_run-run.result)
     (log_of c.pass-tally.result c.loop-n.list)
-ran c =
+ran c fits =
     let a = c.args in
     let run = c.alone_run-run in
     run-next a.room a.text.now (log_of a.tally a.list.now) c.loop-n.invariant.1 run.result run.ensures.0 run.ensures.1 _
-    (c.pass-tally.ensures c.loop-n.list)
+    (pass-plain c.loop-n.tally run.result fits c.pass-tally.ensures c.loop-n.list)
 
 pub overflow_add-at : goal.overflow_add-at
 overflow_add-at c = omega (arith, (found (goal.at.overflow_add-at c).After-alone_run-run).0)
@@ -71,7 +69,7 @@ shape_of-list-in-Nothing c = c.loop-n.invariant.0
 pub returns-in-Nothing : goal.returns-in-Nothing
 returns-in-Nothing c =
     let a = c.args in
-    end-nothing a.room a.text.now (log_of a.tally a.list.now) (ran (goal.at.returns-in-Nothing c).After-pass-tally)
+    end-nothing a.room a.text.now (log_of a.tally a.list.now) (ran (goal.at.returns-in-Nothing c).After-pass-tally (found (goal.at.returns-in-Nothing c).After-alone_run-run).1)
     c.segment.result c.segment.ensures c.in-Nothing.is
 
 -- a whole segment stands there
@@ -80,27 +78,23 @@ whole : (c : In-Whole) {l₀ l : Log} (w : Walked units_division c.args.room c.a
     Next c.args.room c.args.text.now l₀ w n (passed n l)
 whole c w = next-whole c.args.room c.args.text.now _ w c.segment.result c.segment.ensures _ c.in-Whole.is
 
-pub pass-tally-requires-in-Whole : goal.pass-tally-requires-in-Whole
-pass-tally-requires-in-Whole c =
-    let n = whole c (ran (goal.at.pass-tally-requires-in-Whole c).After-pass-tally) in
-    omega (arith, n.fits.sums)
-
 pub overflow_add-at-in-Whole : goal.overflow_add-at-in-Whole
 overflow_add-at-in-Whole c =
     let at = goal.at.overflow_add-at-in-Whole c in
-    let n = whole at.In-Whole (ran at.After-pass-tally) in
+    let n = whole at.In-Whole (ran at.After-pass-tally (found at.After-alone_run-run).1) in
     omega (arith, n.inside_is)
 
 pub loop-n-smaller-in-Whole : goal.loop-n-smaller-in-Whole
 loop-n-smaller-in-Whole c =
     let at = goal.at.loop-n-smaller-in-Whole c in
-    let n = whole at.In-Whole (ran at.After-pass-tally) in
+    let n = whole at.In-Whole (ran at.After-pass-tally (found at.After-alone_run-run).1) in
     omega (arith, n.some, n.inside_is)
 
 pub loop-n-preserved-in-Whole : goal.loop-n-preserved-in-Whole
 loop-n-preserved-in-Whole c =
     let at = goal.at.loop-n-preserved-in-Whole c in
-    (c.loop-n.invariant.0, (whole at.In-Whole (ran at.After-pass-tally)).walks _ (c.pass-tally-in-Whole.ensures c.loop-n.list))
+    let n = whole at.In-Whole (ran at.After-pass-tally (found at.After-alone_run-run).1) in
+    (c.loop-n.invariant.0, n.walks _ (pass-plain c.pass-tally.result c.in-Whole.n (omega (arith, n.fits.sums)) c.pass-tally-in-Whole.ensures c.loop-n.list))
 
 -- damage stands there
 damaged : (c : In-Damage) {l₀ l : Log}
@@ -109,28 +103,23 @@ damaged : (c : In-Damage) {l₀ l : Log}
     Next c.args.room c.args.text.now l₀ w n (struck c.args.room n (number_of c.in-Damage.cause) l)
 damaged c w = next-damage c.args.room c.args.text.now _ w c.segment.result c.segment.ensures _ _ c.in-Damage.is
 
-pub strike-tally-requires : goal.strike-tally-requires
-strike-tally-requires c =
-    let at = goal.at.strike-tally-requires c in
-    (damaged at.In-Damage (ran at.After-pass-tally)).fits
-
 pub overflow_add-at-in-Damage : goal.overflow_add-at-in-Damage
 overflow_add-at-in-Damage c =
     let at = goal.at.overflow_add-at-in-Damage c in
-    let n = damaged at.In-Damage (ran at.After-pass-tally) in
+    let n = damaged at.In-Damage (ran at.After-pass-tally (found at.After-alone_run-run).1) in
     omega (arith, n.inside_is)
 
 pub loop-n-smaller : goal.loop-n-smaller
 loop-n-smaller c =
     let at = goal.at.loop-n-smaller c in
-    let n = damaged at.In-Damage (ran at.After-pass-tally) in
+    let n = damaged at.In-Damage (ran at.After-pass-tally (found at.After-alone_run-run).1) in
     omega (arith, n.some, n.inside_is)
 
 pub loop-n-preserved : goal.loop-n-preserved
 loop-n-preserved c =
     let at = goal.at.loop-n-preserved c in
-    let n = damaged at.In-Damage (ran at.After-pass-tally) in
-    (c.strike-tally.auto.list ∙ c.loop-n.invariant.0, n.walks _ c.strike-tally.ensures)
+    let n = damaged at.In-Damage (ran at.After-pass-tally (found at.After-alone_run-run).1) in
+    (c.strike-tally.auto.list ∙ c.loop-n.invariant.0, n.walks _ (strike-plain c.pass-tally.result c.args.room c.loop-n.list c.in-Damage.n (number_of c.in-Damage.cause) n.fits c.strike-tally.ensures))
 
 pub shape_of-list-in-Begun : goal.shape_of-list-in-Begun
 shape_of-list-in-Begun c = c.loop-n.invariant.0
@@ -138,5 +127,5 @@ shape_of-list-in-Begun c = c.loop-n.invariant.0
 pub returns-in-Begun : goal.returns-in-Begun
 returns-in-Begun c =
     let a = c.args in
-    end-begun a.room a.text.now (log_of a.tally a.list.now) (ran (goal.at.returns-in-Begun c).After-pass-tally)
+    end-begun a.room a.text.now (log_of a.tally a.list.now) (ran (goal.at.returns-in-Begun c).After-pass-tally (found (goal.at.returns-in-Begun c).After-alone_run-run).1)
     c.segment.result c.segment.ensures _ c.in-Begun.is

@@ -12,6 +12,7 @@ use Rattle.utf8_check.proofs.RunDivides.{Run}
 use Rattle.utf8_check.proofs.StandingIsWhole.{run_at}
 use Rattle.decoder_shared.specs.Inside.Steps.{Fits, Settles}
 use Rattle.decoder_shared.specs.Inside.Tallying.{log_of}
+use Rattle.decoder_shared.proofs.TallyPlain.{pass-plain}
 use Rattle.decoder_to_utf16.proofs.TallyOfBytes.{empty_settled, Left, left-start, left-fits, left-settles, run_room, run-next}
 use Rattle.decoder_to_utf16.proofs.tally.walk.Goals.{After-pass-first, After-walk_on-all, After-whole_run-run}
 use Rattle.decoder_to_utf16.proofs.tally.walk.Goals as goal
@@ -25,12 +26,6 @@ returns-then-text-eq0 c =
 whole : (c : After-whole_run-run) → Run c.args.text.now c.whole_run-run.result
 whole c = run_at c.args.text.now c.whole_run-run.result c.whole_run-run.ensures
 
-pub pass-first-requires : goal.pass-first-requires
-pass-first-requires c =
-    let a = c.args in
-    let entry = log_of a.tally a.list.now in
-    run_room a.room a.text.now entry (left-start a.room a.text.now entry c.requires refl) c.whole_run-run.result (whole c)
-
 -- and is passed
 ran : (c : After-pass-first) → Run c.args.text.now c.whole_run-run.result
     → let a = c.args in
@@ -38,8 +33,10 @@ ran : (c : After-pass-first) → Run c.args.text.now c.whole_run-run.result
 ran c run =
     let a = c.args in
     let entry = log_of a.tally a.list.now in
-    run-next a.room a.text.now entry (left-start a.room a.text.now entry c.requires refl) c.whole_run-run.result run
-    (log_of c.pass-first.result a.list.now) (c.pass-first.ensures a.list.now)
+    let start = left-start a.room a.text.now entry c.requires refl in
+    let fits = run_room a.room a.text.now entry start c.whole_run-run.result run in
+    run-next a.room a.text.now entry start c.whole_run-run.result run
+    (log_of c.pass-first.result a.list.now) (pass-plain a.tally c.whole_run-run.result fits c.pass-first.ensures a.list.now)
 
 -- what the rest gives is what is left to tally
 settles : (room : ℕ) (text : List ℕ) (l then : Log) (n : ℕ) → Run text n → Left room text l (drop n text) then

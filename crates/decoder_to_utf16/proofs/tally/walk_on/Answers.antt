@@ -14,6 +14,7 @@ use Rattle.utf8_check.proofs.RunDivides.{Run}
 use Rattle.utf8_check.proofs.RunsPassed.{run_paced}
 use Rattle.utf8_pending.proofs.SettledFirst.{bytes-short, settled-inside, told-size}
 use Rattle.decoder_shared.specs.Inside.Tallying.{log_of}
+use Rattle.decoder_shared.proofs.TallyPlain.{pass-plain, take-plain}
 use Rattle.decoder_to_utf16.proofs.TallyOfBytes.{Left, left-start, told-fits, told-next, told-end, run_room, run-next}
 use Rattle.decoder_to_utf16.proofs.tally.walk_on.Goals.{After-take-tally, After-paced_run-run, After-segment_by-seg, After-settled_size-size, At-loop-pace}
 use Rattle.decoder_to_utf16.proofs.tally.walk_on.Goals as goal
@@ -38,12 +39,6 @@ returns-then-size-eq0 c =
     (says (goal.at.returns-then-size-eq0 c).After-segment_by-seg)
     (sym c.settled_size-size.ensures ∙ c.if-size-eq0.true)
 
-pub take-tally-requires : goal.take-tally-requires
-take-tally-requires c =
-    let a = c.args in
-    told-fits a.room a.text.now (log_of a.tally a.list.now) c.loop-pace.invariant.1 c.segment_by-seg.result
-    (says (goal.at.take-tally-requires c).After-segment_by-seg)
-
 -- it is tallied
 counted : (c : After-take-tally) → told_first c.segment_by-seg.result ≡ first_says bytes c.loop-pace.rest.now
     → let a = c.args in
@@ -51,9 +46,11 @@ counted : (c : After-take-tally) → told_first c.segment_by-seg.result ≡ firs
     (log_of c.take-tally.result c.take-tally.new.list)
 counted c said =
     let a = c.args in
+    let fits = told-fits a.room a.text.now (log_of a.tally a.list.now) c.loop-pace.invariant.1 c.segment_by-seg.result said in
     rw c.settled_size-size.ensures
     (told-next a.room a.text.now (log_of a.tally a.list.now) c.loop-pace.invariant.1 c.segment_by-seg.result said
-    (log_of c.take-tally.result c.take-tally.new.list) c.take-tally.ensures)
+    (log_of c.take-tally.result c.take-tally.new.list)
+    (take-plain c.loop-pace.tally a.room c.loop-pace.list c.segment_by-seg.result fits c.take-tally.ensures))
 
 inside : (c : After-settled_size-size) → told_first c.segment_by-seg.result ≡ first_says bytes c.loop-pace.rest.now
     → c.settled_size-size.result ≤ length c.loop-pace.rest.now
@@ -77,13 +74,6 @@ next c =
     let size = c.settled_size-size.result in
     let rest = c.loop-pace.rest.now in
     run_paced (drop size rest) _ c.paced_run-run.result (rw (part_is rest size) at c.paced_run-run.ensures)
-
-pub pass-tally-requires : goal.pass-tally-requires
-pass-tally-requires c =
-    let a = c.args in
-    let at = goal.at.pass-tally-requires c in
-    run_room a.room a.text.now (log_of a.tally a.list.now) (counted at.After-take-tally (says at.After-segment_by-seg))
-    c.paced_run-run.result (next c)
 
 -- the run, as the code cuts it off
 ends : (c : After-paced_run-run)
@@ -112,10 +102,12 @@ loop-pace-preserved c =
     let entry = log_of a.tally a.list.now in
     let list = c.take-tally.new.list in
     let ran = log_of c.pass-tally.result list in
-    let at = goal.at.loop-pace-preserved c in (
+    let at = goal.at.loop-pace-preserved c in
+    let here = counted at.After-take-tally (says at.After-segment_by-seg) in
+    let fits = run_room a.room a.text.now entry here c.paced_run-run.result (next at.After-paced_run-run) in (
       c.take-tally.auto.list ∙ c.loop-pace.invariant.0,
       subst (λ (rest : List ℕ). Left a.room a.text.now entry rest ran)
           (sym (lent_both c.loop-pace.rest.now c.settled_size-size.result c.paced_run-run.result))
-          (run-next a.room a.text.now entry (counted at.After-take-tally (says at.After-segment_by-seg))
-          c.paced_run-run.result (next at.After-paced_run-run) ran (c.pass-tally.ensures list)),
+          (run-next a.room a.text.now entry here
+          c.paced_run-run.result (next at.After-paced_run-run) ran (pass-plain c.take-tally.result c.paced_run-run.result fits c.pass-tally.ensures list)),
     )

@@ -6,6 +6,7 @@ use lib.ListN.{length, drop}
 use native.Mathlib.Omega.{arith}
 use Rattle.terms.proofs.WalkWrites.{lent}
 use Rattle.copy.proofs.Copied.{copied_whole}
+use Rattle.decoder_shared.proofs.TallyPlain.{pass-plain}
 use Rattle.decoder.specs.Inside.Acting.{work}
 use Rattle.decoder.proofs.SegmentsAct.{passed_none, put-as, put-lent}
 use Rattle.decoder.proofs.repair.Repair.pass.Goals as goal
@@ -23,4 +24,4 @@ returns c =
     let ys = c.copy.new.out in
     let room : n ≤ length (lent a.out.now t.written) = put-lent a.out.now t.written n c.requires.0 in
     let e : ys ≡ a.run.now ++ drop n (lent a.out.now t.written) = copied_whole a.run.now (lent a.out.now t.written) ys room c.copy.ensures in
-    λ list. put-as t a.out.now a.run.now ys c.requires.0 e c.pass.result list _ (c.pass.ensures list)
+    λ list. put-as t a.out.now a.run.now ys c.requires.0 e c.pass.result list _ (pass-plain t.tally n c.requires.1 c.pass.ensures list)
