@@ -16,7 +16,7 @@ use convert_point::Target;
 use convert_utf16_blocks::Part;
 use terms::{Decoder, Refusal};
 
-// How many bytes the code points take that begin in front of a place.
+// How many bytes the code points take that begin in front of a place. The walk keeps an index, as it tells how far it came.
 fn count_segments(text: &[u16], stop: usize) -> Part
     requires { (0 < stop) × (stop ≤ length text.now) × (length text.now ≤ limit) }
     ensures { Passes utf16 utf8 text.now result.read result.places }
@@ -47,17 +47,17 @@ fn need_bytes(text: &[u16]) -> usize
     requires { length text.now ≤ limit }
     ensures { result ≡ length (converted utf16 utf8 text.now) }
 {
-    let mut at: usize = 0;
+    let mut rest = text;
     let mut total: usize = 0;
-    while at < text.len() {
-        let p = count_part(&text[at..]);
+    while !rest.is_empty() {
+        let p = count_part(rest);
         total += p.places;
-        at += p.read;
+        rest = &rest[p.read..];
     }
     total
 }
 
-// The bytes of the code points that begin in front of a place.
+// The bytes of the code points that begin in front of a place. The walk keeps an index, as it tells how far it came.
 fn write_segments(text: &[u16], stop: usize, out: &mut [u8]) -> Part
     requires { (0 < stop) × (stop ≤ length text.now) × (length (converted utf16 utf8 text.now) ≤ length out.old) }
     ensures { PassesTo utf16 utf8 text.now out.old out.new result.read result.places }
@@ -102,12 +102,12 @@ fn write_bytes(text: &[u16], out: &mut [u8]) -> usize
     requires { length (converted utf16 utf8 text.now) ≤ length out.old }
     ensures { Puts (converted utf16 utf8 text.now) out.old out.new result }
 {
-    let mut at: usize = 0;
+    let mut rest = text;
     let mut done: usize = 0;
-    while at < text.len() {
-        let p = write_part(&text[at..], &mut out[done..]);
+    while !rest.is_empty() {
+        let p = write_part(rest, &mut out[done..]);
         done += p.places;
-        at += p.read;
+        rest = &rest[p.read..];
     }
     done
 }
