@@ -43,12 +43,6 @@ module _ (text : List ℕ) where
   abbrev pub Rest : List ℕ → Type 0
   Rest rest = rest ≡ drop (come rest) text
 
-  pub rest-start : Rest text
-  rest-start = ap (λ (n : ℕ). drop n text) at_start
-    where
-      at_start : 0 ≡ length text - length text
-      at_start = omega arith
-
   module _ (rest : List ℕ) (r : Rest rest) where
     -- it is no longer than the text
     pub rest-inside : come rest + length rest ≡ length text

@@ -1,5 +1,5 @@
 -- A walk over a text in passes, of which each reads some of the text and counts or writes what that takes, over any forms.
-use mathlib.Core.Path.{◌≡◌, refl, sym, ap, ◌∙◌}
+use mathlib.Core.Path.{◌≡◌, sym, ap, ◌∙◌}
 use Prim.Native.Nat.{ℕ, ◌+◌, ◌-◌, ◌≤◌, ◌<◌}
 use native.Mathlib.Nat.{zero-add}
 use mathlib.Core.List.{List, [], ◌∷◌, ◌++◌, append_assoc}
@@ -12,10 +12,6 @@ use Rattle.terms.proofs.WalkBySegments.{part_is}
 use Rattle.terms.proofs.WalkWrites.{Met, met, left_end, lent, back, back_is, Wrote}
 use Rattle.convert_point.specs.Puts.{Puts}
 use Rattle.convert_point.specs.Inside.Passes.{Passes, PassesTo}
-
--- what `&text[at..]` hands over, as the text from there on
-pub passes-part : (F G : Form) (text : List ℕ) (at read places : ℕ) → Passes F G (take (length text - at) (drop at text)) read places → Passes F G (drop at text) read places
-passes-part F G text at read places p = rw part_is at p
 
 -- ---- one code point, as a pass
 
@@ -43,9 +39,6 @@ module _ (F G : Form) (text : List ℕ) where
     pub form : List ℕ
     pub count : places ≡ length form
     pub parted : converted F G text ≡ form ++ converted F G (drop at text)
-
-  pub passed_start : Passed 0 0
-  passed_start = record { inside = omega arith; form = []; count = refl; parted = refl }
 
   module _ (at places : ℕ) (p : Passed at places) where
     -- no more than the whole
