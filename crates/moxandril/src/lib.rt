@@ -4,7 +4,7 @@
 
 // What calls answer, in any subject: the refusals, what stands first in a text, and how long an output is always enough.
 pub use convert_point::{Target, most};
-pub use terms::{Checked, First, Point, Refusal, Written};
+pub use terms::{Cause, First, Point, Refusal};
 
 // Texts of UTF-8 bytes.
 pub mod bytes {
@@ -35,40 +35,41 @@ pub mod pages {
 
 // Repair of a byte text that comes in pieces, with a list of its damages; and the recorder's watch, byte by byte.
 pub mod pieces {
-    pub use decoder::{Fed, Finished, Opening, Started, Total, feed, finish, most, start};
+    pub use decoder::{Fed, Finished, Started, Totals, feed, finish, most, start};
     pub use decoder_watch::{Watched, step, watch};
     pub use terms::Decoder;
 }
 
 // Repair of a text of UTF-16 units that comes in pieces, written as bytes.
 pub mod unit_pieces {
-    pub use decoder::{Opening, Total};
-    pub use decoder_from_utf16::{Fed, Finished, Started, UnitDecoder, feed, finish, most, start};
+    pub use decoder_from_utf16::{
+        Fed, Finished, Started, Totals, UnitDecoder, feed, finish, most, start,
+    };
 }
 
 // Repair of a byte text that comes in pieces, written as UTF-16 units.
 pub mod pieces_to_units {
-    pub use decoder::{Fed, Finished, Opening, Started, Total, start};
+    pub use decoder::{Fed, Finished, Started, Totals, start};
     pub use decoder_to_utf16::{feed, finish, most};
     pub use terms::Decoder;
 }
 
 // Places in a byte text, by bytes, UTF-16 units, code points or lines; and cutting.
 pub mod places {
-    pub use place::{Bytes, Lines, Offset, Place, Placed, Points, Units};
+    pub use place::{Bytes, Lines, Offset, Place, Points, Units};
     pub use place_cut::{cut_bytes, cut_points, cut_units, last};
     pub use place_lookup::{at_byte, at_line, at_point, at_unit, resume};
 }
 
 // Where a phrase stands in a text, and the text from there on.
 pub mod phrases {
-    pub use find::{Match, find, find_plain, find_rest};
+    pub use find::{find, find_plain, find_rest};
 }
 
 // An index of a byte text: built in pieces, looked up, audited.
 pub mod index {
     pub use index_audit::audit;
-    pub use index_build::{Builder, Building, Built, feed, finish};
+    pub use index_build::{Builder, Built, feed, finish};
     pub use index_checkpoint::needed;
     pub use index_lookup::{at_byte, at_line, at_point, at_unit};
 }
