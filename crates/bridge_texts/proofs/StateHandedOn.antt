@@ -4,21 +4,21 @@ use Prim.Native.Nat.{ℕ, ◌≤◌}
 use mathlib.Core.Bool.{Bool, true, false}
 use mathlib.Core.List.{List}
 use lib.ListN.{length}
-use Rattle.terms.specs.Told.{told_written}
+use Rattle.std.specs.Prelude.{Result}
+use Rattle.terms.specs.Told.{told_checked, told_written}
 use Rattle.terms.specs.declared.Decoder.{Decoder}
-use Rattle.terms.specs.declared.Written.{Written}
+use Rattle.terms.specs.declared.Refusal.{Refusal}
 use Rattle.decoder_shared.specs.Decoding.{Decoding}
 use Rattle.decoder_shared.specs.Calls as call
-use Rattle.decoder.specs.Feeding.{told_opening, told_total}
-use Rattle.decoder.specs.declared.Opening.{Opening}
-use Rattle.decoder.specs.declared.Total.{Total}
+use Rattle.decoder_shared.specs.Calls.{told_total}
+use Rattle.decoder_shared.specs.declared.Totals.{Totals}
 use Rattle.decoder_watch.specs.Watching.{watching}
 use Rattle.decoder_watch.specs.declared.Watched.{Watched}
 use Rattle.bridge_numbers.specs.Telling.{saying, said_of, put, not_called, Tells}
 use Rattle.bridge_numbers.specs.States.{kept, decoder_numbers}
 use Rattle.bridge_numbers.specs.declared.telling.Said.{Said}
 use Rattle.bridge_numbers.proofs.HoldsState.{kept-long}
-use Rattle.bridge_numbers.proofs.AllSaid.{said_written, said_opening, said_total}
+use Rattle.bridge_numbers.proofs.AllSaid.{said_checked, said_written, said_total}
 use Rattle.bridge_numbers.proofs.WrapperTells.{as_said}
 use Rattle.bridge_texts.specs.Keeping.{Starts, Feeds, Finishes, Watches}
 
@@ -32,18 +32,18 @@ module _ {S : Type 0} (D : Decoding S) (numbers : S → List ℕ) (n : ℕ) wher
   pub unstarted : {called : Bool} {room : ℕ} {state says : List ℕ} → called ≡ false → Starts D numbers called room state state says says not_called
   unstarted e = rw e (record { tells = record { reply = refl; told = refl }; next = refl })
 
-  pub started : {called : Bool} {room : ℕ} {state state' says says' : List ℕ} {r : ℕ} {s : Said} → called ≡ true → (a : Opening) (d : S)
-      → call.Starts D room (told_opening a) d → n ≤ length state → state' ≡ kept n (numbers d) state → s ≡ said_of (told_opening a)
+  pub started : {called : Bool} {room : ℕ} {state state' says says' : List ℕ} {r : ℕ} {s : Said} → called ≡ true → (a : Result (Unit {0}) Refusal) (d : S)
+      → call.Starts D room (told_checked a) d → n ≤ length state → state' ≡ kept n (numbers d) state → s ≡ said_of (told_checked a)
       → Tells true (saying s) says says' r → Starts D numbers called room state state' says says' r
   started {state = state} e a d f long k s t =
-      rw e (record { tells = as_said (said_opening a s ∙ f.answer) t; next = put_is state long k f.state })
+      rw e (record { tells = as_said (said_checked a s ∙ f.answer) t; next = put_is state long k f.state })
 
   pub unfed : {called : Bool} {d : S} {piece out list state says : List ℕ} → called ≡ false
       → Feeds D numbers called d piece out list out list state state says says not_called
   unfed e = rw e (record { tells = record { reply = refl; told = refl }; next = refl; output = refl; entries = refl })
 
   pub was-fed : {called : Bool} {d q : S} {piece out list out' list' state state' says says' : List ℕ} {r : ℕ} {s : Said}
-      → called ≡ true → q ≡ d → (a : Written) (x : S) → call.Feeds D q piece out list out' list' (told_written a) x → n ≤ length state
+      → called ≡ true → q ≡ d → (a : Result ℕ Refusal) (x : S) → call.Feeds D q piece out list out' list' (told_written a) x → n ≤ length state
       → state' ≡ kept n (numbers x) state → s ≡ said_of (told_written a) → Tells true (saying s) says says' r
       → Feeds D numbers called d piece out list out' list' state state' says says' r
   was-fed {state = state} e q a x f long k s t =
@@ -55,7 +55,7 @@ module _ {S : Type 0} (D : Decoding S) (numbers : S → List ℕ) (n : ℕ) wher
   unfinished e = rw e (record { tells = record { reply = refl; told = refl }; next = refl; output = refl; entries = refl })
 
   pub was-finished : {called : Bool} {d q : S} {out list out' list' state state' says says' : List ℕ} {r : ℕ} {s : Said}
-      → called ≡ true → q ≡ d → (a : Total) (x : S) → call.Finishes D q out list out' list' (told_total a) x → n ≤ length state
+      → called ≡ true → q ≡ d → (a : Result Totals Refusal) (x : S) → call.Finishes D q out list out' list' (told_total a) x → n ≤ length state
       → state' ≡ kept n (numbers x) state → s ≡ said_of (told_total a) → Tells true (saying s) says says' r
       → Finishes D numbers called d out list out' list' state state' says says' r
   was-finished {state = state} e q a x f long k s t =

@@ -15,20 +15,18 @@ use moxandril::pages::Page;
 fn is_page(number: usize) -> bool
     ensures { result ≡ is_page number }
 {
-    (number == 1) | (number == 5) | (number == 15)
+    matches!(number, 1 | 5 | 15)
 }
 
 // 1 and 5, else 15.
 fn page_of(number: usize) -> Page
     ensures { result ≡ page_of number }
 {
-    if number == 1 {
-        return Page::Iso8859_1;
+    match number {
+        1 => Page::Iso8859_1,
+        5 => Page::Iso8859_5,
+        _ => Page::Iso8859_15,
     }
-    if number == 5 {
-        return Page::Iso8859_5;
-    }
-    Page::Iso8859_15
 }
 
 // moxandril::pages::to_bytes: 0 and how many bytes were written, or the refusal.

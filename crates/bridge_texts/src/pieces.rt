@@ -20,7 +20,7 @@ pub extern "C" fn bridge_pieces_start(room: usize, state: &mut [usize], says: &m
     let answer = started.answer;
     let next = started.state;
     bridge_numbers::states::keep_decoder(next, state);
-    bridge_numbers::telling::tell(bridge_numbers::answers::say_opening(answer), says)
+    bridge_numbers::telling::tell(bridge_numbers::answers::say_checked(answer), says)
 }
 
 // moxandril::pieces::feed: 0 and how many bytes were written, or the refusal.

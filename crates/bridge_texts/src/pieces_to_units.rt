@@ -25,7 +25,7 @@ pub extern "C" fn bridge_pieces_to_units_start(
     let answer = started.answer;
     let next = started.state;
     bridge_numbers::states::keep_decoder(next, state);
-    bridge_numbers::telling::tell(bridge_numbers::answers::say_opening(answer), says)
+    bridge_numbers::telling::tell(bridge_numbers::answers::say_checked(answer), says)
 }
 
 // moxandril::pieces_to_units::feed: 0 and how many units were written, or the refusal.

@@ -13,13 +13,11 @@ use moxandril::Target;
 fn target_of(kind: usize) -> Target
     ensures { result ≡ target_of kind }
 {
-    if kind == 0 {
-        return Target::Bytes;
+    match kind {
+        0 => Target::Bytes,
+        1 => Target::Units,
+        _ => Target::Points,
     }
-    if kind == 1 {
-        return Target::Units;
-    }
-    Target::Points
 }
 
 // moxandril::most, from one form into another.

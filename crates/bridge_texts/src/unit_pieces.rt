@@ -24,7 +24,7 @@ pub extern "C" fn bridge_unit_pieces_start(
     let answer = started.answer;
     let next = started.state;
     bridge_numbers::states::keep_unit_decoder(next, state);
-    bridge_numbers::telling::tell(bridge_numbers::answers::say_opening(answer), says)
+    bridge_numbers::telling::tell(bridge_numbers::answers::say_checked(answer), says)
 }
 
 // moxandril::unit_pieces::feed: 0 and how many bytes were written, or the refusal.

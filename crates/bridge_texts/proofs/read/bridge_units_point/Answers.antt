@@ -1,8 +1,13 @@
 -- The code point and its size are told.
 use mathlib.Core.Path.{ap, ◌∙◌}
-use Rattle.bridge_numbers.specs.Telling.{saying}
+use Rattle.terms.specs.Form.{told_point}
+use Rattle.terms.proofs.PointTold.{told-first-point}
+use Rattle.utf16.specs.Scalar.{utf16}
+use Rattle.bridge_numbers.proofs.AllSaid.{said_point}
 use Rattle.bridge_numbers.proofs.WrapperTells.{as_said}
 use Rattle.bridge_texts.proofs.read.bridge_units_point.Goals as goal
 
 pub returns : goal.returns
-returns c = as_said (ap saying c.say_point.ensures ∙ c.point.ensures) c.tell.ensures
+returns c =
+    as_said (said_point c.point.result c.say_point.ensures ∙ ap told_point c.point.ensures ∙ told-first-point utf16 c.args.text.now)
+    c.tell.ensures

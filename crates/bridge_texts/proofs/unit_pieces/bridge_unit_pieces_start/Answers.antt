@@ -19,4 +19,4 @@ pub returns : goal.returns
 returns c =
     let a = c.args in
     started unit_decoding unit_decoder_numbers 7 (is-writable 7 a.state.now a.says.now c.if-state-lt7.false c.if-says-lt-ROOM.false) c.start-started.result.answer c.start-started.result.state c.start-started.ensures
-    c.if-state-lt7.false c.keep_unit_decoder.ensures c.say_opening.ensures (roomed c.if-says-lt-ROOM.false c.tell.ensures)
+    c.if-state-lt7.false c.keep_unit_decoder.ensures c.say_checked.ensures (roomed c.if-says-lt-ROOM.false c.tell.ensures)
