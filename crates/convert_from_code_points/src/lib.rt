@@ -20,7 +20,7 @@ pub fn to_bytes(text: &[u32], out: &mut [u8]) -> Result<usize, Refusal>
         result }
 {
     code_points::check(text)?;
-    convert_point::fit::<u32, u8>(text, out)
+    convert_point::repair::<u32, u8>(text, out)
 }
 
 // The text as units; strict, so that a number that is no scalar value is refused.
@@ -33,5 +33,5 @@ pub fn to_units(text: &[u32], out: &mut [u16]) -> Result<usize, Refusal>
         result }
 {
     code_points::check(text)?;
-    convert_point::fit::<u32, u16>(text, out)
+    convert_point::repair::<u32, u16>(text, out)
 }

@@ -1,12 +1,12 @@
 // A whole text of UTF-16 units in the other forms, strict and repairing, and its repair, into a lent output.
 #![tactic(auto)]
 
-ghost use Rattle.std.specs.Prelude.{◌≡◌, ◌≤◌, ◌<◌, length};
+ghost use Rattle.std.specs.Prelude.{◌≡◌, true, ◌≤◌, ◌<◌, length};
 ghost use Rattle.terms.specs.Limits.{limit};
-ghost use Rattle.terms.specs.Form.{repaired, converted};
+ghost use Rattle.terms.specs.Form.{is_scalar, repaired, converted};
 ghost use Rattle.terms.specs.Strict.{damaged};
 ghost use Rattle.terms.specs.Writing.{Writes, repair_says, convert_says};
-ghost use Rattle.utf8.specs.Scalar.{utf8};
+ghost use Rattle.utf8.specs.Scalar.{sequence, utf8};
 ghost use Rattle.utf16.specs.Scalar.{utf16};
 ghost use Rattle.code_points.specs.Points.{code_points};
 ghost use Rattle.convert_point.specs.Puts.{Puts};
@@ -57,6 +57,35 @@ fn need_bytes(text: &[u16]) -> usize
     total
 }
 
+// A code point as bytes, where there is room for it: without the test of the room, which a walk would make for each. A call that two crates
+// share has that test, so convert_point has these stores too.
+fn put_sequence(out: &mut [u8], c: u32) -> usize
+    requires c_value { is_scalar c ≡ true }
+    requires c_in_bounds { length (sequence c) ≤ length out.old }
+    ensures { Puts (sequence c) out.old out.new result }
+{
+    if c < 0x80 {
+        out[0] = c as u8;
+        return 1;
+    }
+    if c < 0x800 {
+        out[0] = (0xC0 + c / 0x40) as u8;
+        out[1] = (0x80 + c % 0x40) as u8;
+        return 2;
+    }
+    if c < 0x10000 {
+        out[0] = (0xE0 + c / 0x1000) as u8;
+        out[1] = (0x80 + c / 0x40 % 0x40) as u8;
+        out[2] = (0x80 + c % 0x40) as u8;
+        return 3;
+    }
+    out[0] = (0xF0 + c / 0x40000) as u8;
+    out[1] = (0x80 + c / 0x1000 % 0x40) as u8;
+    out[2] = (0x80 + c / 0x40 % 0x40) as u8;
+    out[3] = (0x80 + c % 0x40) as u8;
+    4
+}
+
 // The bytes of the code points that begin in front of a place. The walk keeps an index, as it tells how far it came.
 fn write_segments(text: &[u16], stop: usize, out: &mut [u8]) -> Part
     requires { (0 < stop) × (stop ≤ length text.now) × (length (converted utf16 utf8 text.now) ≤ length out.old) }
@@ -66,7 +95,7 @@ fn write_segments(text: &[u16], stop: usize, out: &mut [u8]) -> Part
     let mut done: usize = 0;
     while at < stop {
         let p = utf16::point(&text[at..]).unwrap();
-        done += convert_point::put_sequence(&mut out[done..], p.number);
+        done += put_sequence(&mut out[done..], p.number);
         at += p.size;
     }
     Part {
@@ -143,10 +172,7 @@ pub fn repair(text: &[u16], out: &mut [u16]) -> Result<usize, Refusal>
         out.new
         result }
 {
-    if Decoder::LIMIT < text.len() {
-        return Err(Refusal::OverLimit);
-    }
-    convert_point::fit::<u16, u16>(text, out)
+    convert_point::repair::<u16, u16>(text, out)
 }
 
 // The text as bytes; strict, so that damage is refused.
@@ -172,5 +198,5 @@ pub fn to_points(text: &[u16], out: &mut [u32]) -> Result<usize, Refusal>
         result }
 {
     utf16_check::check(text)?;
-    convert_point::fit::<u16, u32>(text, out)
+    convert_point::repair::<u16, u32>(text, out)
 }

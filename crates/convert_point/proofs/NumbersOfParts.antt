@@ -9,6 +9,10 @@ use Rattle.convert_point.specs.Puts.{fitting, Puts}
 use Rattle.convert_point.specs.Numbers.{Numbers}
 
 module _ {A : Type 0} {numbers : List A → List ℕ} (laws : Numbers numbers) where
+  -- they lose nothing
+  pub told-numbers : (a b : List A) → numbers a ≡ numbers b → a ≡ b
+  told-numbers = laws.same
+
   pub numbers-lent : (xs : List A) (n : ℕ) → numbers (take (length xs - n) (drop n xs)) ≡ lent (numbers xs) n
   numbers-lent xs n =
       laws.taken (length xs - n) (drop n xs)

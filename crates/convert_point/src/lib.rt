@@ -16,7 +16,7 @@ mod element;
 mod whole;
 
 pub use element::Element;
-pub use whole::{fit, need, write};
+pub use whole::repair;
 
 // The form that a text has, or into which it is converted.
 #[derive(Clone, Copy)]
@@ -94,7 +94,7 @@ pub fn most(from: Target, to: Target, n: usize) -> usize
 }
 
 // A code point as bytes, where there is room for it: without the test of the room, which a walk would make for each.
-pub fn put_sequence(out: &mut [u8], c: u32) -> usize
+fn put_sequence(out: &mut [u8], c: u32) -> usize
     requires c_value { c ≤ 0x10FFFF }
     requires c_in_bounds { length (sequence c) ≤ length out.old }
     ensures { Puts (sequence c) out.old out.new result }

@@ -3,15 +3,15 @@
 ghost use Rattle.std.specs.Prelude.{◌≡◌, ◌≤◌, length};
 ghost use Rattle.terms.specs.Limits.{limit};
 ghost use Rattle.terms.specs.Form.{converted};
-ghost use Rattle.terms.specs.Writing.{Writes, roomed};
+ghost use Rattle.terms.specs.Writing.{Writes, repair_says};
 ghost use Rattle.convert_point.specs.Target.{form_of};
 ghost use Rattle.convert_point.specs.Puts.{Puts};
 
 use crate::element::Element;
-use terms::Refusal;
+use terms::{Decoder, Refusal};
 
 // How many elements of another form a text takes, U+FFFD for each damage.
-pub fn need<S: Element, T: Element>(text: &[S]) -> usize
+fn need<S: Element, T: Element>(text: &[S]) -> usize
     requires { length text.now ≤ limit }
     ensures { result ≡ length (converted (form_of S.target) (form_of T.target) (S.numbers text.now)) }
 {
@@ -25,7 +25,7 @@ pub fn need<S: Element, T: Element>(text: &[S]) -> usize
 }
 
 // The text in another form, U+FFFD for each damage.
-pub fn write<S: Element, T: Element>(text: &[S], out: &mut [T]) -> usize
+fn write<S: Element, T: Element>(text: &[S], out: &mut [T]) -> usize
     requires { length (converted (form_of S.target) (form_of T.target) (S.numbers text.now)) ≤ length out.old }
     ensures { Puts
         (converted (form_of S.target) (form_of T.target) (S.numbers text.now))
@@ -42,16 +42,18 @@ pub fn write<S: Element, T: Element>(text: &[S], out: &mut [T]) -> usize
     done
 }
 
-// The text in another form, or its need where the output has no room for it.
-pub fn fit<S: Element, T: Element>(text: &[S], out: &mut [T]) -> Result<usize, Refusal>
-    requires { length text.now ≤ limit }
+// The text in another form, U+FFFD for each damage; refused where the text is over the limit, or where the output has no room for it.
+pub fn repair<S: Element, T: Element>(text: &[S], out: &mut [T]) -> Result<usize, Refusal>
     ensures { Writes
-        (roomed (length out.old) (converted (form_of S.target) (form_of T.target) (S.numbers text.now)))
+        (repair_says (length out.old) (S.numbers text.now) (converted (form_of S.target) (form_of T.target) (S.numbers text.now)))
         (converted (form_of S.target) (form_of T.target) (S.numbers text.now))
         (T.numbers out.old)
         (T.numbers out.new)
         result }
 {
+    if Decoder::LIMIT < text.len() {
+        return Err(Refusal::OverLimit);
+    }
     let needed = need::<S, T>(text);
     if out.len() < needed {
         return Err(Refusal::NoRoom { needed });

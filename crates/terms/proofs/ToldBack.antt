@@ -5,8 +5,9 @@ use mathlib.Core.Bool.{false, cond}
 use mathlib.Core.List.{List, [], ◌∷◌}
 use lib.ListN.{length, get_or}
 use lib.Dec.{eqb}
-use Rattle.std.specs.Prelude.{is_ok, Result, Ok, Err}
-use Rattle.terms.specs.Told.{is_granted, number_of, told_refusal, told_first, told, told_checked, told_written}
+use native.Mathlib.Omega.{arith}
+use Rattle.std.specs.Prelude.{is_ok, Option, None, Some, Result, Ok, Err}
+use Rattle.terms.specs.Told.{is_granted, number_of, told_cause, told_refusal, told_first, told, told_checked, told_written}
 use Rattle.terms.specs.declared.Cause.{Cause}
 use Rattle.terms.specs.declared.Cause.TheVariants.{Stray, Foreign, Stopped, Ended}
 use Rattle.terms.specs.declared.First.{First}
@@ -28,8 +29,20 @@ cause_back Foreign = refl
 cause_back Stopped = refl
 cause_back Ended = refl
 
+some_number : (c : Cause) → number_of c ≡ 0 → ⊥
+some_number Stray e = omega (arith, e)
+some_number Foreign e = omega (arith, e)
+some_number Stopped e = omega (arith, e)
+some_number Ended e = omega (arith, e)
+
 pub number_of_lem : (a b : Cause) → number_of a ≡ number_of b → a ≡ b
 number_of_lem a b e = sym (cause_back a) ∙ ap back_cause e ∙ cause_back b
+
+pub told-cause : (a b : Option Cause) → told_cause a ≡ told_cause b → a ≡ b
+told-cause None None e = refl
+told-cause None (Some b) e = absurd (some_number b (sym e))
+told-cause (Some a) None e = absurd (some_number a e)
+told-cause (Some a) (Some b) e = ap (λ (c : Cause). Some c) (number_of_lem a b e)
 
 unfoldable pub back_refusal : List ℕ → Refusal
 back_refusal l =

@@ -2,7 +2,6 @@
 use mathlib.Core.Path.{sym, ◌∙◌}
 use Prim.Native.Nat.{◌+◌}
 use native.Mathlib.Omega.{arith}
-use Rattle.terms.proofs.FaithfulForms.{scalar_top}
 use Rattle.terms.proofs.WalkWrites.{Met, back, Wrote, wrote-room, wrote-next}
 use Rattle.utf16.specs.Scalar.{utf16}
 use Rattle.utf8.specs.Scalar.{utf8}
@@ -22,7 +21,7 @@ pub put_sequence-done-requires : goal.put_sequence-done-requires
 put_sequence-done-requires c =
     let m = here (goal.at.put_sequence-done-requires c).After-unwrap-p in
     record {
-      c_value = omega (arith, scalar_top c.unwrap-p.result.number m.scalar);
+      c_value = m.scalar;
       c_in_bounds = wrote-room utf16 utf8 c.args.text.now c.args.out.now _ _ _ c.loop-at.invariant c.requires.2 _ _ m;
     }
 
