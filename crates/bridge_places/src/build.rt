@@ -40,7 +40,7 @@ pub extern "C" fn bridge_index_feed(
     let answer = built.answer;
     let next = built.state;
     bridge_numbers::states::keep_builder(next, state);
-    bridge_numbers::telling::tell(bridge_numbers::answers::say_building(answer), says)
+    bridge_numbers::telling::tell(bridge_numbers::answers::say_checked(answer), says)
 }
 
 // moxandril::index::finish: 0, or the refusal.
@@ -64,7 +64,7 @@ pub extern "C" fn bridge_index_finish(
     let answer = built.answer;
     let next = built.state;
     bridge_numbers::states::keep_builder(next, state);
-    bridge_numbers::telling::tell(bridge_numbers::answers::say_building(answer), says)
+    bridge_numbers::telling::tell(bridge_numbers::answers::say_checked(answer), says)
 }
 
 // moxandril::index::needed of a text of so many bytes.

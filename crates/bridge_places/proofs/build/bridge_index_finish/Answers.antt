@@ -27,4 +27,4 @@ pub returns : goal.returns
 returns c =
     let a = c.args in
     was_ended (is-ready (is_state 8 a.state.now) a.says.now (passed (goal.at.returns c).Else-not-is_state) c.if-says-lt-ROOM.false) c.builder_of.ensures
-    c.finish-built.ensures (state-long 8 a.state.now (passed (goal.at.returns c).Else-not-is_state)) c.keep_builder.ensures c.say_building.ensures (roomed c.if-says-lt-ROOM.false c.tell.ensures)
+    c.finish-built.ensures (state-long 8 a.state.now (passed (goal.at.returns c).Else-not-is_state)) c.keep_builder.ensures c.say_checked.ensures (roomed c.if-says-lt-ROOM.false c.tell.ensures)
