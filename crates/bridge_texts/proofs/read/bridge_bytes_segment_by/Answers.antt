@@ -1,9 +1,0 @@
--- What stands first by the table is told.
-use mathlib.Core.Path.{◌∙◌}
-use Rattle.bridge_numbers.proofs.AllSaid.{said_first}
-use Rattle.bridge_numbers.proofs.WrapperTells.{as_said}
-use Rattle.bridge_texts.proofs.read.bridge_bytes_segment_by.Goals as goal
-
-pub returns : goal.returns
-returns c =
-    as_said (said_first c.segment_by.result c.say_first.ensures ∙ c.segment_by.ensures) c.tell.ensures
