@@ -12,9 +12,8 @@ ghost use Rattle.demand_feeding.specs.Pieces as specs;
 ghost use Rattle.demand_feeding.specs.Inside.Feeding.{fed_one};
 ghost use Rattle.demand_to_utf16.specs.Inside.Feeding.{held};
 
-use decoder::{Opening, Total};
 use demand_feeding::Found;
-use terms::{Decoder, Written};
+use terms::Decoder;
 
 // So far: the decoder's state, where the next piece begins, and how many places are written.
 #[derive(Clone, Copy)]
@@ -37,14 +36,13 @@ fn feed_piece(gone: Gone, text: &[u8], cut: usize, out: &mut [u16], list: &mut [
     let to = demand_shared::bring(cut, from, text.len());
     let fed = decoder_to_utf16::feed(gone.state, &text[from..to], &mut out[done..], list);
     let state = fed.state;
-    let answer = fed.answer;
-    match answer {
-        Written::Count(n) => Gone {
+    match fed.answer {
+        Ok(n) => Gone {
             state,
             from: to,
             done: done + n,
         },
-        Written::Refused(_) => Gone { state, from, done },
+        Err(_) => Gone { state, from, done },
     }
 }
 
@@ -58,21 +56,15 @@ fn end(gone: Gone, text: &[u8], out: &mut [u16], list: &mut [u32]) -> Found
         return demand_feeding::nothing();
     }
     let done = gone.done;
-    let answer = decoder_to_utf16::finish(gone.state, &mut out[done..], list).answer;
-    match answer {
-        Total::Given {
-            written,
-            whole,
-            damaged,
-            count,
-        } => Found {
+    match decoder_to_utf16::finish(gone.state, &mut out[done..], list).answer {
+        Ok(totals) => Found {
             granted: true,
-            written: done + written,
-            whole,
-            damaged,
-            count,
+            written: done + totals.written,
+            whole: totals.whole,
+            damaged: totals.damaged,
+            count: totals.count,
         },
-        Total::Refused(_) => demand_feeding::nothing(),
+        Err(_) => demand_feeding::nothing(),
     }
 }
 
@@ -88,10 +80,7 @@ fn run(state: Decoder, text: &[u8], cuts: &[usize], out: &mut [u16], list: &mut 
         from: 0,
         done: 0,
     };
-    let mut i = 0;
-    while i < cuts.len() {
-        let cut = cuts[i];
-        i += 1;
+    for &cut in cuts {
         gone = feed_piece(gone, text, cut, out, list);
     }
     let all = feed_piece(gone, text, text.len(), out, list);
@@ -105,11 +94,9 @@ fn feed_pieces(text: &[u8], cuts: &[usize], room: usize, out: &mut [u16], list: 
         out.old list.old }
 {
     let started = decoder_to_utf16::start(room);
-    let state = started.state;
-    let answer = started.answer;
-    match answer {
-        Opening::Ready => run(state, text, cuts, out, list),
-        Opening::Refused(_) => demand_feeding::nothing(),
+    match started.answer {
+        Ok(()) => run(started.state, text, cuts, out, list),
+        Err(_) => demand_feeding::nothing(),
     }
 }
 
@@ -141,18 +128,12 @@ fn compare(
     ) {
         return false;
     }
-    if !a.granted {
-        return true;
-    }
-    if !b.granted {
+    if !a.granted || !b.granted {
         return true;
     }
     let i = a.written;
     let j = b.written;
-    if !demand_shared::same_units(&once[..i], whole) {
-        return false;
-    }
-    demand_shared::same_units(&parts[..j], whole)
+    &once[..i] == whole && &parts[..j] == whole
 }
 
 // Both ways, into buffers of their own: is the same found, and what the whole repair has written?
@@ -197,7 +178,7 @@ pub fn pieces_to_units(
         result }
 {
     match convert_from_utf8::repair_to_units(text, whole) {
-        Written::Count(n) => fed_alike(
+        Ok(n) => fed_alike(
             text,
             cuts,
             room,
@@ -207,6 +188,6 @@ pub fn pieces_to_units(
             parts,
             parts_list,
         ),
-        Written::Refused(why) => demand_feeding::is_due(why, text.len(), whole.len()),
+        Err(why) => demand_feeding::is_due(why, text.len(), whole.len()),
     }
 }

@@ -29,16 +29,16 @@ slice_bounds-feed-start c = from_in (goal.at.slice_bounds-feed-start c).After-br
 pub slice_bounds-feed-end : goal.slice_bounds-feed-end
 slice_bounds-feed-end c = to_in (goal.at.slice_bounds-feed-end c).After-bring-to
 
-pub returns-in-Count : goal.returns-in-Count
-returns-in-Count c =
+pub returns-in-Ok : goal.returns-in-Ok
+returns-in-Ok c =
     let a = c.args in
     piece-granted to_units a.text.now (held a.gone a.out.now a.list.now) a.cut (length a.out.now) c.bring-to.result
     (length a.out.now - a.gone.done) c.bring-to.ensures (all-lent a.out.now a.gone.done) c.feed-fed.ensures
-    c.in-Count.n (ap told_written c.in-Count.is)
+    c.in-Ok.n (ap told_written c.in-Ok.is)
 
-pub returns-in-Refused : goal.returns-in-Refused
-returns-in-Refused c =
+pub returns-in-Err : goal.returns-in-Err
+returns-in-Err c =
     let a = c.args in
     piece-refused to_units a.text.now (held a.gone a.out.now a.list.now) a.cut (length a.out.now) c.bring-to.result
     (length a.out.now - a.gone.done) c.bring-to.ensures (all-lent a.out.now a.gone.done) c.feed-fed.ensures
-    (ap (λ q. is_granted (told_written q)) c.in-Refused.is ∙ no_zero c.in-Refused.field-0)
+    (ap (λ q. is_granted (told_written q)) c.in-Err.is ∙ no_zero c.in-Err.field-0)

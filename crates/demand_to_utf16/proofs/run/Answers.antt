@@ -1,4 +1,4 @@
--- `run` meets its contract: the pieces before cut i are fed.
+-- `run` meets its contract: the pieces before the cut are fed.
 use mathlib.Core.Path.{◌≡◌, ap, ◌∙◌}
 use mathlib.Core.List.{[]}
 use native.Mathlib.Omega.{arith}
@@ -11,8 +11,8 @@ use Rattle.demand_to_utf16.specs.Inside.Feeding.{held}
 use Rattle.demand_to_utf16.proofs.run.Goals.{After-feed_piece-all}
 use Rattle.demand_to_utf16.proofs.run.Goals as goal
 
-pub loop-i-init : goal.loop-i-init
-loop-i-init c =
+pub loop-cut-init : goal.loop-cut-init
+loop-cut-init c =
     let a = c.args in (
       cutting-start to_units a.state.room a.list.now a.text.now a.out.now [] a.cuts.now _
           (begins to_units a.state a.state.room a.out.now a.list.now c.requires),
@@ -23,22 +23,22 @@ loop-i-init c =
 pub feed_piece-gone-requires : goal.feed_piece-gone-requires
 feed_piece-gone-requires c =
     let a = c.args in
-    let b = cutting-bounded to_units a.state.room a.list.now a.text.now a.out.now [] a.cuts.now _ c.loop-i.i c.loop-i.invariant.0 in
+    let b = cutting-bounded to_units a.state.room a.list.now a.text.now a.out.now [] a.cuts.now _ c.loop-cut.cut-index c.loop-cut.invariant.0 in
     (b.from_in, b.done-in)
 
-pub loop-i-preserved : goal.loop-i-preserved
-loop-i-preserved c =
+pub loop-cut-preserved : goal.loop-cut-preserved
+loop-cut-preserved c =
     let a = c.args in (
-      cutting-next to_units a.state.room a.list.now a.text.now a.out.now [] a.cuts.now _ c.loop-i.i c.loop-i.invariant.0
-          c.loop-i-test.true _ c.feed_piece-gone.ensures,
-      omega (arith, c.feed_piece-gone.auto.out, c.loop-i.invariant.1),
-      omega (arith, c.feed_piece-gone.auto.list, c.loop-i.invariant.2),
+      cutting-next to_units a.state.room a.list.now a.text.now a.out.now [] a.cuts.now _ c.loop-cut.cut-index c.loop-cut.invariant.0
+          (omega arith) _ c.feed_piece-gone.ensures,
+      omega (arith, c.feed_piece-gone.auto.out, c.loop-cut.invariant.1),
+      omega (arith, c.feed_piece-gone.auto.list, c.loop-cut.invariant.2),
     )
 
 pub feed_piece-all-requires : goal.feed_piece-all-requires
 feed_piece-all-requires c =
     let a = c.args in
-    let b = cutting-bounded to_units a.state.room a.list.now a.text.now a.out.now [] a.cuts.now _ c.loop-i.i c.loop-i.invariant.0 in
+    let b = cutting-bounded to_units a.state.room a.list.now a.text.now a.out.now [] a.cuts.now _ c.loop-cut.cut-index c.loop-cut.invariant.0 in
     (b.from_in, b.done-in)
 
 all : (c : After-feed_piece-all) → let a = c.args in
@@ -46,8 +46,8 @@ all : (c : After-feed_piece-all) → let a = c.args in
     ≡ behind to_units a.state.room a.list.now a.text.now a.out.now (pieces a.text.now a.cuts.now [] a.out.now)
 all c =
     let a = c.args in
-    cutting-end to_units a.state.room a.list.now a.text.now a.out.now [] a.cuts.now _ c.loop-i.i c.loop-i.invariant.0
-    c.loop-i-test.false _ c.feed_piece-all.ensures
+    cutting-end to_units a.state.room a.list.now a.text.now a.out.now [] a.cuts.now _ c.loop-cut.cut-index c.loop-cut.invariant.0
+    (omega arith) _ c.feed_piece-all.ensures
 
 pub end-requires : goal.end-requires
 end-requires c =
