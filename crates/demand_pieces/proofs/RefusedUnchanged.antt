@@ -19,7 +19,7 @@ use Rattle.terms.specs.Told as told
 use Rattle.terms.specs.Writing.{roomed}
 use Rattle.terms.specs.declared.Decoder.{Decoder}
 use Rattle.terms.specs.declared.Refusal.{Refusal}
-use Rattle.terms.specs.declared.Written.TheVariants as the_written
+use Rattle.std.specs.Prelude.{Ok, Err}
 use Rattle.utf8.specs.Bytes.{bytes}
 use Rattle.utf8.specs.Scalar.{utf8}
 use Rattle.utf8_pending.proofs.SettledFirst.{bytes-short, left-short}
@@ -28,7 +28,7 @@ use Rattle.decoder.specs.Checks.{admitted}
 use Rattle.decoder.proofs.TestsAsFacts.{Sound, sound_is, is_sound}
 use Rattle.decoder.specs.State.{left, sound, byte_decoding, fed}
 use Rattle.decoder.specs.Feeding.{feed_says, Feeds}
-use Rattle.decoder.specs.declared.Fed.{Fed}
+use Rattle.decoder_shared.specs.declared.Fed.{Fed}
 use Rattle.demand_pieces.specs.Inside.Trying.{number_of, due_to, Refuses}
 use Rattle.demand_pieces.specs.Inside.Trying as trying
 use Rattle.demand_feeding.proofs.GrantedExactly.{fed-form}
@@ -38,14 +38,14 @@ head says = get_or says 0 0
 
 -- ---- the call: what is refused changes nothing, and tells its number
 
-module _ {d : Decoder} {piece out list out₁ list₁ : List ℕ} {q : Fed} (f : Feeds d piece out list out₁ list₁ q)
+module _ {d : Decoder} {piece out list out₁ list₁ : List ℕ} {q : Fed Decoder} (f : Feeds d piece out list out₁ list₁ q)
     (n : ℕ) (due : head (feed_says d piece out list) ≡ n) (some : 0 < n) where
-  pub not-granted : (m : ℕ) → q.answer ≡ the_written.Count m → ⊥
+  pub not-granted : (m : ℕ) → q.answer ≡ Ok m → ⊥
   not-granted m a =
       let z : 0 ≡ n = ap head (sym (ap told.told_written a) ∙ f.answer) ∙ due in
       omega (arith, z, some)
 
-  pub refused-so : (why : Refusal) → q.answer ≡ the_written.Refused why → (k : ℕ) → k ≡ get_or (told_refusal why) 0 0 → Refuses out list out₁ list₁ (eqb k n)
+  pub refused-so : (why : Refusal) → q.answer ≡ Err why → (k : ℕ) → k ≡ get_or (told_refusal why) 0 0 → Refuses out list out₁ list₁ (eqb k n)
   refused-so why a k e =
       let no : is_granted (feed_says d piece out list) ≡ false
       = ne_eqb (head (feed_says d piece out list)) 0 (λ z. let y : n ≡ 0 = sym due ∙ z in omega (arith, y, some)) in

@@ -8,9 +8,8 @@ ghost use Rattle.demand_feeding.specs.Inside.Feeding.{fed_one, fed_tries};
 ghost use Rattle.demand_pieces.specs.Inside.Feeding.{held, Went};
 ghost use Rattle.demand_pieces.specs.Inside.Trying as tries;
 
-use decoder::{Opening, Total};
 use demand_feeding::Found;
-use terms::{Decoder, Written};
+use terms::Decoder;
 
 // So far: the decoder's state, where the next piece begins, and how many places are written.
 #[derive(Clone, Copy)]
@@ -43,17 +42,16 @@ fn feed_piece(
     let from = gone.from;
     let done = gone.done;
     let to = demand_shared::bring(cut, from, text.len());
-    let end = done + demand_shared::least(out.len() - done, places);
+    let end = done + places.min(out.len() - done);
     let fed = decoder::feed(gone.state, &text[from..to], &mut out[done..end], list);
     let state = fed.state;
-    let answer = fed.answer;
-    match answer {
-        Written::Count(n) => Gone {
+    match fed.answer {
+        Ok(n) => Gone {
             state,
             from: to,
             done: done + n,
         },
-        Written::Refused(_) => Gone { state, from, done },
+        Err(_) => Gone { state, from, done },
     }
 }
 
@@ -85,36 +83,29 @@ fn end(gone: Gone, text: &[u8], out: &mut [u8], list: &mut [u32]) -> Found
         return demand_feeding::nothing();
     }
     let done = gone.done;
-    let answer = decoder::finish(gone.state, &mut out[done..], list).answer;
-    match answer {
-        Total::Given {
-            written,
-            whole,
-            damaged,
-            count,
-        } => Found {
+    match decoder::finish(gone.state, &mut out[done..], list).answer {
+        Ok(totals) => Found {
             granted: true,
-            written: done + written,
-            whole,
-            damaged,
-            count,
+            written: done + totals.written,
+            whole: totals.whole,
+            damaged: totals.damaged,
+            count: totals.count,
         },
-        Total::Refused(_) => demand_feeding::nothing(),
+        Err(_) => demand_feeding::nothing(),
     }
 }
 
 // ---- calls that must be refused
 
-// Is a feed of so many bytes refused with this number?
+// Is a feed of so many bytes refused with this number? It is the number that the paper gives to the refusal.
 fn is_refused(state: Decoder, size: usize, number: usize, out: &mut [u8], list: &mut [u32]) -> bool
     requires { (size ≤ length tries.bytes) × (tries.number_of state size out.old list.old ≡ number) × (0 < number) }
     ensures { tries.Refuses out.old list.old out.new list.new result }
 {
     let bytes = [0x41u8; Decoder::PENDING + 1];
-    let answer = decoder::feed(state, &bytes[..size], out, list).answer;
-    match answer {
-        Written::Count(_) => false,
-        Written::Refused(why) => why.number() == number,
+    match decoder::feed(state, &bytes[..size], out, list).answer {
+        Ok(_) => false,
+        Err(why) => why.number() == number,
     }
 }
 
@@ -122,15 +113,9 @@ fn is_refused(state: Decoder, size: usize, number: usize, out: &mut [u8], list: 
 fn try_unsound(state: Decoder, out: &mut [u8], list: &mut [u32]) -> bool
     ensures { tries.Refuses out.old list.old out.new list.new result }
 {
-    let held = state.held;
     let copy = Decoder {
-        held,
         pending: Decoder::PENDING + 1,
-        taken: state.taken,
-        whole: state.whole,
-        damaged: state.damaged,
-        count: state.count,
-        room: state.room,
+        ..state
     };
     is_refused(copy, 0, 8, out, list)
 }
@@ -140,15 +125,10 @@ fn try_over(state: Decoder, out: &mut [u8], list: &mut [u32]) -> bool
     requires { sound state ≡ true }
     ensures { tries.Refuses out.old list.old out.new list.new result }
 {
-    let held = state.held;
     let copy = Decoder {
-        held,
-        pending: state.pending,
         taken: Decoder::LIMIT,
         whole: state.whole + (Decoder::LIMIT - state.taken),
-        damaged: state.damaged,
-        count: state.count,
-        room: state.room,
+        ..state
     };
     is_refused(copy, 1, 2, out, list)
 }
@@ -158,15 +138,9 @@ fn try_list(state: Decoder, out: &mut [u8], list: &mut [u32]) -> bool
     requires { sound state ≡ true }
     ensures { tries.Refuses out.old list.old out.new list.new result }
 {
-    let held = state.held;
     let copy = Decoder {
-        held,
-        pending: state.pending,
-        taken: state.taken,
-        whole: state.whole,
-        damaged: state.damaged,
-        count: state.count,
         room: Decoder::ROOM,
+        ..state
     };
     is_refused(copy, 0, 7, out, &mut list[..0])
 }
@@ -262,10 +236,7 @@ fn run_pieces(
         from: 0,
         done: 0,
     };
-    let mut i = 0;
-    while i < cuts.len() {
-        let cut = cuts[i];
-        i += 1;
+    for &cut in cuts {
         if !try_refused(trying, gone.state, out, list) {
             return unrefused();
         }
@@ -288,11 +259,9 @@ pub(crate) fn feed_once(text: &[u8], room: usize, out: &mut [u8], list: &mut [u3
         out.old list.old }
 {
     let started = decoder::start(room);
-    let state = started.state;
-    let answer = started.answer;
-    match answer {
-        Opening::Ready => run_once(state, text, out, list),
-        Opening::Refused(_) => demand_feeding::nothing(),
+    match started.answer {
+        Ok(()) => run_once(started.state, text, out, list),
+        Err(_) => demand_feeding::nothing(),
     }
 }
 
@@ -312,11 +281,9 @@ pub(crate) fn feed_pieces(
         out.old list.old) }
 {
     let started = decoder::start(room);
-    let state = started.state;
-    let answer = started.answer;
-    match answer {
-        Opening::Ready => run_pieces(state, text, cuts, scant, trying, out, list),
-        Opening::Refused(_) => Way {
+    match started.answer {
+        Ok(()) => run_pieces(started.state, text, cuts, scant, trying, out, list),
+        Err(_) => Way {
             found: demand_feeding::nothing(),
             refuses: true,
         },

@@ -8,7 +8,6 @@ ghost use Rattle.demand_feeding.specs.Comparing.{Fair};
 ghost use Rattle.demand_feeding.specs.Pieces as specs;
 
 use demand_feeding::Found;
-use terms::Written;
 
 mod feeds;
 
@@ -38,18 +37,12 @@ fn compare(
     ) {
         return false;
     }
-    if !a.granted {
-        return true;
-    }
-    if !b.granted {
+    if !a.granted || !b.granted {
         return true;
     }
     let i = a.written;
     let j = b.written;
-    if !demand_shared::same_bytes(&once[..i], whole) {
-        return false;
-    }
-    demand_shared::same_bytes(&parts[..j], whole)
+    &once[..i] == whole && &parts[..j] == whole
 }
 
 // Both ways, into buffers of their own: is every call refused that must be, and is the same found, and what the whole repair has written?
@@ -101,7 +94,7 @@ fn alike(
         result }
 {
     match utf8_repair::repair(text, whole) {
-        Written::Count(n) => fed_alike(
+        Ok(n) => fed_alike(
             text,
             cuts,
             scant,
@@ -113,7 +106,7 @@ fn alike(
             parts,
             parts_list,
         ),
-        Written::Refused(why) => demand_feeding::is_due(why, text.len(), whole.len()),
+        Err(why) => demand_feeding::is_due(why, text.len(), whole.len()),
     }
 }
 

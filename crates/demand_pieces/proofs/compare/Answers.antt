@@ -3,7 +3,6 @@ use mathlib.Core.Path.{sym, ◌∙◌}
 use mathlib.Core.Bool.{true≢false}
 use lib.Seq.{length-take-le}
 use borrow.Author.Tests.{not-false}
-use Rattle.demand_shared.proofs.EqualExactly.{equal-yes}
 use Rattle.demand_feeding.specs.Comparing.{Wrote}
 use Rattle.demand_pieces.proofs.compare.Goals.{Else-not-b}
 use Rattle.demand_pieces.proofs.compare.Goals as goal
@@ -18,15 +17,8 @@ once-wrote c = c.requires.once-wrote (not-false c.args.a.granted c.if-not-a.fals
 parts-wrote : (c : Else-not-b) → let a = c.args in Wrote a.whole.now a.b a.parts.now
 parts-wrote c = c.requires.parts-wrote (not-false c.args.b.granted c.if-not-b.false)
 
-pub slice_bounds-same_bytes-end : goal.slice_bounds-same_bytes-end
-slice_bounds-same_bytes-end c = sym (length-take-le _ _ (once-wrote c).within)
+pub slice_bounds-eq-end : goal.slice_bounds-eq-end
+slice_bounds-eq-end c = sym (length-take-le _ _ (once-wrote (goal.at.slice_bounds-eq-end c).Else-not-b).within)
 
-pub returns-then-not-same_bytes : goal.returns-then-not-same_bytes
-returns-then-not-same_bytes c =
-    absurd (true≢false (sym (c.same_bytes.ensures ∙ equal-yes _ _ (once-wrote (goal.at.returns-then-not-same_bytes c).Else-not-b).output) ∙ c.if-not-same_bytes.true))
-
-pub slice_bounds-same_bytes-end-2 : goal.slice_bounds-same_bytes-end-2
-slice_bounds-same_bytes-end-2 c = sym (length-take-le _ _ (parts-wrote (goal.at.slice_bounds-same_bytes-end-2 c).Else-not-b).within)
-
-pub returns : goal.returns
-returns c = c.same_bytes-2.ensures ∙ equal-yes _ _ (parts-wrote (goal.at.returns c).Else-not-b).output
+pub slice_bounds-eq-end-then-eq : goal.slice_bounds-eq-end-then-eq
+slice_bounds-eq-end-then-eq c = sym (length-take-le _ _ (parts-wrote (goal.at.slice_bounds-eq-end-then-eq c).Else-not-b).within)

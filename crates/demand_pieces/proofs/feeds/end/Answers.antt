@@ -13,14 +13,14 @@ returns-then-gone-text c =
     let a = c.args in
     end_before byte_decoding a.text.now (held a.gone a.out.now a.list.now) c.if-gone-text.true c.nothing.result c.nothing.ensures
 
-pub returns-in-Given : goal.returns-in-Given
-returns-in-Given c =
+pub returns-in-Ok : goal.returns-in-Ok
+returns-in-Ok c =
     let a = c.args in
-    end-granted byte_decoding a.text.now (held a.gone a.out.now a.list.now) c.if-gone-text.false c.finish-answer.ensures
-    c.in-Given.written c.in-Given.whole c.in-Given.damaged c.in-Given.count (ap told_total c.in-Given.is)
+    end-granted byte_decoding a.text.now (held a.gone a.out.now a.list.now) c.if-gone-text.false c.finish.ensures
+    c.in-Ok.totals.written c.in-Ok.totals.whole c.in-Ok.totals.damaged c.in-Ok.totals.count (ap told_total c.in-Ok.is)
 
-pub returns-in-Refused : goal.returns-in-Refused
-returns-in-Refused c =
+pub returns-in-Err : goal.returns-in-Err
+returns-in-Err c =
     let a = c.args in
-    end_refused byte_decoding a.text.now (held a.gone a.out.now a.list.now) c.if-gone-text.false c.finish-answer.ensures
-    (ap (λ q. is_granted (told_total q)) c.in-Refused.is ∙ no_zero c.in-Refused.field-0) c.nothing-in-Refused.result c.nothing-in-Refused.ensures
+    end_refused byte_decoding a.text.now (held a.gone a.out.now a.list.now) c.if-gone-text.false c.finish.ensures
+    (ap (λ q. is_granted (told_total q)) c.in-Err.is ∙ no_zero c.in-Err.field-0) c.nothing-in-Err.result c.nothing-in-Err.ensures

@@ -3,7 +3,7 @@ use mathlib.Core.Path.{ap, ◌∙◌}
 use mathlib.Core.List.{[]}
 use Rattle.terms.specs.Told.{is_granted}
 use Rattle.terms.proofs.ToldBack.{no_zero}
-use Rattle.decoder.specs.Feeding.{told_opening}
+use Rattle.terms.specs.Told.{told_checked}
 use Rattle.decoder.specs.State.{byte_decoding}
 use Rattle.decoder.proofs.BytesLawful.{bytes_lawful}
 use Rattle.demand_feeding.specs.Feeds.{given, pieces}
@@ -12,17 +12,17 @@ use Rattle.demand_pieces.proofs.feeds.feed_once.Goals as goal
 
 pub run_once-requires : goal.run_once-requires
 run_once-requires c =
-    ready-fresh byte_decoding c.args.room c.start-started.ensures bytes_lawful (ap told_opening c.in-Ready.is)
+    ready-fresh byte_decoding c.args.room c.start-started.ensures bytes_lawful (ap told_checked c.in-Ok.is)
 
-pub returns-in-Ready : goal.returns-in-Ready
-returns-in-Ready c =
+pub returns-in-Ok : goal.returns-in-Ok
+returns-in-Ok c =
     let a = c.args in
     through-ready byte_decoding a.room c.start-started.ensures bytes_lawful a.text.now (pieces a.text.now [] [] a.out.now) a.out.now a.list.now _
-    (ap told_opening c.in-Ready.is) c.run_once.ensures
+    (ap told_checked c.in-Ok.is) c.run_once.ensures
 
-pub returns-in-Refused : goal.returns-in-Refused
-returns-in-Refused c =
+pub returns-in-Err : goal.returns-in-Err
+returns-in-Err c =
     let a = c.args in
     through-refused byte_decoding a.room c.start-started.ensures a.text.now (pieces a.text.now [] [] a.out.now) a.out.now a.list.now _
-    (ap (λ q. is_granted (told_opening q)) c.in-Refused.is ∙ no_zero c.in-Refused.field-0)
+    (ap (λ q. is_granted (told_checked q)) c.in-Err.is ∙ no_zero c.in-Err.field-0)
     (ap (λ x. given x a.out.now a.list.now) c.nothing.ensures)

@@ -7,10 +7,10 @@ use Rattle.demand_pieces.proofs.feeds.is_refused.Goals as goal
 pub slice_bounds-feed-end : goal.slice_bounds-feed-end
 slice_bounds-feed-end c = sym (length-take-le _ _ c.requires.0)
 
-pub returns-in-Count : goal.returns-in-Count
-returns-in-Count c =
-    absurd (not-granted c.feed-answer.ensures c.args.number c.requires.1 c.requires.2 c.in-Count.field-0 c.in-Count.is)
+pub returns-in-Ok : goal.returns-in-Ok
+returns-in-Ok c =
+    absurd (not-granted c.feed.ensures c.args.number c.requires.1 c.requires.2 c.in-Ok.field-0 c.in-Ok.is)
 
-pub returns-in-Refused : goal.returns-in-Refused
-returns-in-Refused c =
-    refused-so c.feed-answer.ensures c.args.number c.requires.1 c.requires.2 c.in-Refused.why c.in-Refused.is c.number.result c.number.ensures
+pub returns-in-Err : goal.returns-in-Err
+returns-in-Err c =
+    refused-so c.feed.ensures c.args.number c.requires.1 c.requires.2 c.in-Err.why c.in-Err.is c.number.result c.number.ensures

@@ -1,4 +1,4 @@
--- `feeds::run_pieces` meets its contract: the pieces before cut i are fed.
+-- `feeds::run_pieces` meets its contract: the pieces before the cut are fed.
 use mathlib.Core.Path.{◌≡◌, refl, sym, ap, ap₂, subst, ◌∙◌}
 use Prim.Native.Nat.{◌≤◌}
 use mathlib.Core.Bool.{true≢false}
@@ -16,8 +16,8 @@ use Rattle.demand_pieces.specs.Inside.Feeding.{held}
 use Rattle.demand_pieces.proofs.feeds.run_pieces.Goals.{After-feed_twice-all}
 use Rattle.demand_pieces.proofs.feeds.run_pieces.Goals as goal
 
-pub loop-i-init : goal.loop-i-init
-loop-i-init c =
+pub loop-cut-init : goal.loop-cut-init
+loop-cut-init c =
     let a = c.args in (
       cutting-start byte_decoding a.state.room a.list.now a.text.now a.out.now (a.scant ∷ []) a.cuts.now _
           (begins byte_decoding a.state a.state.room a.out.now a.list.now c.requires.0),
@@ -28,7 +28,7 @@ loop-i-init c =
 pub try_refused-requires : goal.try_refused-requires
 try_refused-requires c =
     let a = c.args in
-    cutting-sound byte_decoding a.state.room a.list.now a.text.now a.out.now (a.scant ∷ []) a.cuts.now _ c.loop-i.i c.loop-i.invariant.0 bytes_lawful c.requires.1
+    cutting-sound byte_decoding a.state.room a.list.now a.text.now a.out.now (a.scant ∷ []) a.cuts.now _ c.loop-cut.cut-index c.loop-cut.invariant.0 bytes_lawful c.requires.1
 
 pub returns-then-not-try_refused : goal.returns-then-not-try_refused
 returns-then-not-try_refused c =
@@ -37,24 +37,24 @@ returns-then-not-try_refused c =
 pub feed_twice-gone-requires : goal.feed_twice-gone-requires
 feed_twice-gone-requires c =
     let a = c.args in
-    let b = cutting-bounded byte_decoding a.state.room a.list.now a.text.now a.out.now (a.scant ∷ []) a.cuts.now _ c.loop-i.i c.loop-i.invariant.0 in
-    (b.from_in, subst (λ o. c.loop-i.gone.done ≤ length o) (sym c.try_refused.ensures.output) b.done-in)
+    let b = cutting-bounded byte_decoding a.state.room a.list.now a.text.now a.out.now (a.scant ∷ []) a.cuts.now _ c.loop-cut.cut-index c.loop-cut.invariant.0 in
+    (b.from_in, subst (λ o. c.loop-cut.gone.done ≤ length o) (sym c.try_refused.ensures.output) b.done-in)
 
-pub loop-i-preserved : goal.loop-i-preserved
-loop-i-preserved c =
+pub loop-cut-preserved : goal.loop-cut-preserved
+loop-cut-preserved c =
     let a = c.args in
     let k = c.try_refused.ensures in (
-      cutting-next byte_decoding a.state.room a.list.now a.text.now a.out.now (a.scant ∷ []) a.cuts.now _ c.loop-i.i c.loop-i.invariant.0 c.loop-i-test.true _
+      cutting-next byte_decoding a.state.room a.list.now a.text.now a.out.now (a.scant ∷ []) a.cuts.now _ c.loop-cut.cut-index c.loop-cut.invariant.0 (omega arith) _
           (c.feed_twice-gone.ensures
-          ∙ ap₂ (λ o e. fed_tries byte_decoding a.text.now (held c.loop-i.gone o e) (get_or a.cuts.now c.loop-i.i 0) (a.scant ∷ [])) k.output k.entries),
-      omega (arith, c.feed_twice-gone.auto.out, ap length k.output, c.loop-i.invariant.1),
-      omega (arith, c.feed_twice-gone.auto.list, ap length k.entries, c.loop-i.invariant.2),
+          ∙ ap₂ (λ o e. fed_tries byte_decoding a.text.now (held c.loop-cut.gone o e) (get_or a.cuts.now c.loop-cut.cut-index 0) (a.scant ∷ [])) k.output k.entries),
+      omega (arith, c.feed_twice-gone.auto.out, ap length k.output, c.loop-cut.invariant.1),
+      omega (arith, c.feed_twice-gone.auto.list, ap length k.entries, c.loop-cut.invariant.2),
     )
 
 pub feed_twice-all-requires : goal.feed_twice-all-requires
 feed_twice-all-requires c =
     let a = c.args in
-    let b = cutting-bounded byte_decoding a.state.room a.list.now a.text.now a.out.now (a.scant ∷ []) a.cuts.now _ c.loop-i.i c.loop-i.invariant.0 in
+    let b = cutting-bounded byte_decoding a.state.room a.list.now a.text.now a.out.now (a.scant ∷ []) a.cuts.now _ c.loop-cut.cut-index c.loop-cut.invariant.0 in
     (b.from_in, b.done-in)
 
 all : (c : After-feed_twice-all) → let a = c.args in
@@ -62,8 +62,8 @@ all : (c : After-feed_twice-all) → let a = c.args in
     ≡ behind byte_decoding a.state.room a.list.now a.text.now a.out.now (pieces a.text.now a.cuts.now (a.scant ∷ []) a.out.now)
 all c =
     let a = c.args in
-    cutting-end byte_decoding a.state.room a.list.now a.text.now a.out.now (a.scant ∷ []) a.cuts.now _ c.loop-i.i c.loop-i.invariant.0
-    c.loop-i-test.false _ c.feed_twice-all.ensures
+    cutting-end byte_decoding a.state.room a.list.now a.text.now a.out.now (a.scant ∷ []) a.cuts.now _ c.loop-cut.cut-index c.loop-cut.invariant.0
+    (omega arith) _ c.feed_twice-all.ensures
 
 pub try_refused-requires-2 : goal.try_refused-requires-2
 try_refused-requires-2 c =
