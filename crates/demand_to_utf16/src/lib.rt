@@ -1,5 +1,6 @@
 // Pieces into units: fed in any pieces and finished, a text of bytes gives what its whole repair writes as units, and the entries and totals
 // of one feed.
+// It repeats demand_from_utf16 for the other element type: the numbers in slices of either type would need a trait over the decoders.
 #![tactic(auto)]
 
 ghost use Rattle.std.specs.Prelude.{◌≡◌, ◌≤◌, true, [], length};
