@@ -1,17 +1,12 @@
 -- A match is found at places: a lookup by bytes grants one at its start and at its end, which its other counts find too.
-use mathlib.Core.Path.{◌≡◌, refl, sym, ap, ◌∙◌, subst}
+use mathlib.Core.Path.{◌≡◌, refl, ◌∙◌, subst}
 use Prim.Native.Nat.{ℕ, ◌+◌, ◌≤◌}
 use native.Mathlib.Nat.{zero-add}
-use mathlib.Core.Bool.{true≢false}
 use mathlib.Core.List.{List, [], ◌∷◌, foldl}
-use lib.ListN.{length, get_or}
-use lib.Dec.{eqb}
+use lib.ListN.{length}
 use Rattle.theory.proofs.LinesDivide.{Parted}
 use Rattle.theory.proofs.PlacesFound.{bytes-foldl}
 use Rattle.terms.specs.Limits.{limit}
-use Rattle.terms.specs.Told.{told_refusal}
-use Rattle.terms.specs.declared.Refusal.{Refusal}
-use Rattle.terms.proofs.ToldBack.{no_zero}
 use Rattle.place.specs.Measures.{ruler, reader}
 use Rattle.place.specs.Lookup.{four_counts, lookup_says}
 use Rattle.place.specs.declared.Place.{Place}
@@ -55,7 +50,3 @@ module _ (entry needle : List ℕ) (k : ℕ) (e : 0 ∷ k ∷ [] ≡ find_says e
   ends-at-place =
       let f = found-match entry needle k e in
       boundary-place entry (k + length needle) f.within (first_bounded entry needle k f.clean f.first).end
-
--- where there is a place no lookup by bytes is refused
-pub place-granted : {text : List ℕ} {offset : ℕ} → IsPlace text offset → (r : Refusal) → told_refusal r ≡ lookup_says (λ p. p.bytes) offset text → ⊥
-place-granted i r e = true≢false (sym (ap (λ (l : List ℕ). eqb (get_or l 0 0) 0) (e ∙ i.granted)) ∙ no_zero r)
