@@ -8,8 +8,8 @@ use Rattle.theory.specs.Reader.{cut}
 use Rattle.terms.specs.Limits.{limit}
 use Rattle.terms.specs.Strict.{damages, limited}
 use Rattle.terms.specs.Writing.{Writes, roomed}
-use Rattle.terms.specs.declared.Written.{Written}
-use Rattle.terms.specs.declared.Written.TheVariants.{Count}
+use Rattle.terms.specs.declared.Refusal.{Refusal}
+use Rattle.std.specs.Prelude.{Result, Ok}
 use Rattle.terms.proofs.AnswersWritten.{repair-count}
 use Rattle.utf8.specs.Bytes.{bytes}
 use Rattle.page.specs.Tables.{table_of}
@@ -25,14 +25,14 @@ use Rattle.convert_from_page.proofs.UnitsOfPages.{are_units}
 use Rattle.demand_shared.proofs.CallWrote.{count-says}
 use Rattle.demand_page.specs.Rounds.{as_bytes, as_bytes_says, in_page}
 
-module _ (table text out : List ℕ) {out' : List ℕ} {r : Written} where
+module _ (table text out : List ℕ) {out' : List ℕ} {r : Result ℕ Refusal} where
   -- a text of the page was written as bytes
-  pub as-bytes-count : Writes (as_bytes_says table (length out) text) (as_bytes table text) out out' r → (n : ℕ) → r ≡ Count n
+  pub as-bytes-count : Writes (as_bytes_says table (length out) text) (as_bytes table text) out out' r → (n : ℕ) → r ≡ Ok n
       → (n ≡ length (as_bytes table text)) × (n ≤ length out)
   as-bytes-count w = repair-count text (as_bytes table text) out out' r w
 
   -- bytes were written in the page
-  module _ (w : Writes (to_page_says table (length out) text) (in_page table text) out out' r) (n : ℕ) (e : r ≡ Count n) where
+  module _ (w : Writes (to_page_says table (length out) text) (in_page table text) out out' r) (n : ℕ) (e : r ≡ Ok n) where
     told : to_page_says table (length out) text ≡ 0 ∷ n ∷ []
     told = count-says (to_page_says table (length out) text) (in_page table text) out w n e
 

@@ -8,8 +8,7 @@ use Rattle.terms.specs.Told.{told_refusal, if_granted}
 use Rattle.terms.specs.Writing.{output_of, Writes, roomed}
 use Rattle.terms.specs.Strict.{limited}
 use Rattle.terms.specs.declared.Refusal.{Refusal}
-use Rattle.terms.specs.declared.Written.{Written}
-use Rattle.terms.specs.declared.Written.TheVariants.{Count, Refused}
+use Rattle.std.specs.Prelude.{Result, Ok, Err}
 use Rattle.terms.proofs.ToldBack.{no_zero}
 use Rattle.demand_shared.specs.Equal.{equal}
 use Rattle.demand_shared.proofs.CallWrote.{refused_as, refused_says, count-says, count-wrote}
@@ -20,12 +19,12 @@ use Rattle.demand_page.proofs.RefusalDue.{due-back}
 
 module _ (says to : List ℕ → List ℕ) where
   -- THE WAY BACK
-  module _ (text between back : List ℕ) {back' : List ℕ} {r : Written} (w : Writes (says between) (to between) back back' r) where
+  module _ (text between back : List ℕ) {back' : List ℕ} {r : Result ℕ Refusal} (w : Writes (says between) (to between) back back' r) where
     -- the answer, from what the conversion says
     abbrev answer_of : List ℕ → Bool
     answer_of l = if_granted l (equal text (to between)) (due_back l (length between) (length back) (length text))
 
-    pub back-granted : (n : ℕ) → r ≡ Count n → n ≡ length (to between) → (b : Bool) → b ≡ equal text (take n back') → Back says to text between back back' b
+    pub back-granted : (n : ℕ) → r ≡ Ok n → n ≡ length (to between) → (b : Bool) → b ≡ equal text (take n back') → Back says to text between back back' b
     back-granted n e long b h = record {
       answer =
           h
@@ -34,7 +33,7 @@ module _ (says to : List ℕ → List ℕ) where
       returned = w.output;
     }
 
-    pub back-refused : (q : Refusal) → r ≡ Refused q → (b : Bool) → b ≡ due_back (told_refusal q) (length between) (length back) (length text)
+    pub back-refused : (q : Refusal) → r ≡ Err q → (b : Bool) → b ≡ due_back (told_refusal q) (length between) (length back) (length text)
         → Back says to text between back back' b
     back-refused q e b h = record {
       answer = h ∙ sym (ap answer_of (refused_as (says between) (to between) back w q e) ∙ rw (no_zero q));
@@ -42,13 +41,13 @@ module _ (says to : List ℕ → List ℕ) where
     }
 
   -- THERE AND BACK
-  module _ (says' : List ℕ → List ℕ) (text between : List ℕ) {between' : List ℕ} {r : Written} (w : Writes (says text) (to text) between between' r) where
+  module _ (says' : List ℕ → List ℕ) (text between : List ℕ) {between' : List ℕ} {r : Result ℕ Refusal} (w : Writes (says text) (to text) between between' r) where
     -- a refusal was due
-    pub round-refused : (back : List ℕ) (q : Refusal) → r ≡ Refused q → (b : Bool) → b ≡ true → Round says to says' text between back between' back b
+    pub round-refused : (back : List ℕ) (q : Refusal) → r ≡ Err q → (b : Bool) → b ≡ true → Round says to says' text between back between' back b
     round-refused back q e b h = record { yes = h; there = w.output; returned = rw (refused_says (says text) (to text) between w q e) }
 
     -- what was written gives the text, where nothing but the lengths is in the way
-    pub round-granted : (to' : List ℕ → List ℕ) (n : ℕ) → r ≡ Count n → n ≡ length (to text) → (back back' : List ℕ) (b : Bool)
+    pub round-granted : (to' : List ℕ → List ℕ) (n : ℕ) → r ≡ Ok n → n ≡ length (to text) → (back back' : List ℕ) (b : Bool)
         → Back says' to' text (take n between') back back' b → to' (to text) ≡ text → says' (to text) ≡ limited (to text) (roomed (length back) text)
         → Round says to says' text between back between' back' b
     round-granted to' n e long back back' b h same told =

@@ -1,7 +1,8 @@
 // Old pages, there and back: what two conversions granted is the text, and a refusal was due.
 #![tactic(auto)]
 
-ghost use Rattle.std.specs.Prelude.{◌≡◌, [], ◌∷◌, length};
+ghost use Rattle.std.specs.Prelude.{◌≡◌, ◌==◌, [], ◌∷◌, length};
+ghost use Rattle.std.specs.List.{list_any};
 ghost use Rattle.terms.specs.Strict.{check_says};
 ghost use Rattle.terms.specs.Told.{told_refusal, told_checked};
 ghost use Rattle.utf8.specs.Bytes.{bytes};
@@ -16,21 +17,20 @@ ghost use Rattle.demand_page.specs.Rounds.{as_bytes, as_bytes_says, in_page, Bac
 
 use convert_point::Target;
 use page::Page;
-use terms::{Checked, Refusal, Written};
+use terms::Refusal;
+
+// Does a number stand in a table? A function of its own, as the proof of the search is found over a slice.
+fn stands(numbers: &[u16], c: u32) -> bool
+    ensures { result ≡ list_any (λ n. n == c) numbers.now }
+{
+    numbers.iter().any(|n| u32::from(*n) == c)
+}
 
 // Does a page have a number? Each of its bytes is asked.
 fn has(page: Page, c: u32) -> bool
     ensures { result ≡ paged.has (table_of page) c }
 {
-    let numbers = page::numbers(page);
-    let mut b: usize = 0;
-    while b < 256 {
-        if numbers[b] as u32 == c {
-            return true;
-        }
-        b += 1;
-    }
-    false
+    stands(&page::numbers(page), c)
 }
 
 // How many bytes come before the first code point that a page lacks, code point by code point.
@@ -38,8 +38,7 @@ fn held(text: &[u8], page: Page) -> usize
     ensures { result ≡ held_up_to (table_of page) text.now }
 {
     let mut at: usize = 0;
-    while at < text.len() {
-        let p = utf8::point(&text[at..]);
+    while let Some(p) = utf8::point(&text[at..]) {
         if !has(page, p.number) {
             return at;
         }
@@ -50,15 +49,13 @@ fn held(text: &[u8], page: Page) -> usize
 
 // Was this refusal due on the way into a page, for a text of so many bytes, of which the strict check says so, and of which the page has so
 // many before the first that it lacks?
-fn due_into(why: Refusal, check: Checked, held: usize, long: usize, room: usize) -> bool
+fn due_into(why: Refusal, check: Result<(), Refusal>, held: usize, long: usize, room: usize) -> bool
     ensures { result ≡ due_into (told_refusal why) (told_checked check) held long room }
 {
     match why {
-        Refusal::NotInPage { offset } => demand_convert::accepted(check)
-            & (held < long)
-            & (offset == held),
+        Refusal::NotInPage { offset } => check.is_ok() & (held < long) & (offset == held),
         Refusal::NoRoom { needed } => {
-            demand_convert::accepted(check) & (held == long) & (room < needed) & (needed <= long)
+            check.is_ok() & (held == long) & (room < needed) & (needed <= long)
         }
         _ => demand_convert::due_there(why, check, long, room, long),
     }
@@ -83,7 +80,7 @@ fn due_as_bytes(why: Refusal, long: usize, room: usize) -> bool
     ensures { result ≡ due_there (told_refusal why) (0 ∷ []) long room (most_of the-target.Units the-target.Bytes long) }
 {
     let most = convert_point::most(Target::Units, Target::Bytes, long);
-    demand_convert::due_there(why, Checked::WellFormed, long, room, most)
+    demand_convert::due_there(why, Ok(()), long, room, most)
 }
 
 // Bytes in a page: are they the text?
@@ -93,8 +90,8 @@ fn bytes_in_page(text: &[u8], page: Page, between: &[u8], back: &mut [u8]) -> bo
 {
     let room = back.len();
     match convert_from_utf8::to_page(between, page, back) {
-        Written::Count(n) => demand_shared::same_bytes(text, &back[..n]),
-        Written::Refused(why) => { demand_convert::due_back(why, between.len(), room, text.len()) }
+        Ok(n) => text == &back[..n],
+        Err(why) => demand_convert::due_back(why, between.len(), room, text.len()),
     }
 }
 
@@ -106,8 +103,8 @@ pub fn page_bytes(text: &[u8], page: Page, between: &mut [u8], back: &mut [u8]) 
 {
     let room = between.len();
     match convert_from_page::to_bytes(text, page, between) {
-        Written::Count(n) => bytes_in_page(text, page, &between[..n], back),
-        Written::Refused(why) => due_as_bytes(why, text.len(), room),
+        Ok(n) => bytes_in_page(text, page, &between[..n], back),
+        Err(why) => due_as_bytes(why, text.len(), room),
     }
 }
 
@@ -118,8 +115,8 @@ fn page_as_bytes(text: &[u8], page: Page, between: &[u8], back: &mut [u8]) -> bo
 {
     let room = back.len();
     match convert_from_page::to_bytes(between, page, back) {
-        Written::Count(n) => demand_shared::same_bytes(text, &back[..n]),
-        Written::Refused(why) => { demand_convert::due_back(why, between.len(), room, text.len()) }
+        Ok(n) => text == &back[..n],
+        Err(why) => demand_convert::due_back(why, between.len(), room, text.len()),
     }
 }
 
@@ -131,7 +128,7 @@ pub fn bytes_page(text: &[u8], page: Page, between: &mut [u8], back: &mut [u8]) 
 {
     let room = between.len();
     match convert_from_utf8::to_page(text, page, between) {
-        Written::Count(n) => page_as_bytes(text, page, &between[..n], back),
-        Written::Refused(why) => due_in_page(why, text, page, room),
+        Ok(n) => page_as_bytes(text, page, &between[..n], back),
+        Err(why) => due_in_page(why, text, page, room),
     }
 }

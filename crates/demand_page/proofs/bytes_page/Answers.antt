@@ -18,42 +18,42 @@ use Rattle.demand_page.specs.Rounds.{as_bytes, as_bytes_says, in_page}
 use Rattle.demand_page.proofs.PageRounds.{in-page-granted, in-page-count, as-bytes-told}
 use Rattle.demand_page.proofs.RefusalDue.{due-into}
 use Rattle.demand_page.proofs.WayBack.{round-granted, round-refused}
-use Rattle.demand_page.proofs.bytes_page.Goals.{In-Count}
+use Rattle.demand_page.proofs.bytes_page.Goals.{In-Ok}
 use Rattle.demand_page.proofs.bytes_page.Goals as goal
 
 -- what was written is the form, and lies within the output
-wrote : (c : In-Count)
+wrote : (c : In-Ok)
     → let a = c.args in
-    (c.in-Count.n ≡ length (in_page (table_of a.page) a.text.now)) × (c.in-Count.n ≤ length a.between.now)
+    (c.in-Ok.n ≡ length (in_page (table_of a.page) a.text.now)) × (c.in-Ok.n ≤ length a.between.now)
 wrote c =
     let a = c.args in
-    in-page-count (table_of a.page) a.text.now a.between.now c.to_page.ensures c.in-Count.n c.in-Count.is
+    in-page-count (table_of a.page) a.text.now a.between.now c.to_page.ensures c.in-Ok.n c.in-Ok.is
 
-within : (c : In-Count) → c.in-Count.n ≤ length c.to_page.new.out
+within : (c : In-Ok) → c.in-Ok.n ≤ length c.to_page.new.out
 within c = omega (arith, (wrote c).1, c.to_page.auto.out)
 
 pub slice_bounds-page_as_bytes-end : goal.slice_bounds-page_as_bytes-end
 slice_bounds-page_as_bytes-end c = within c
 
-pub slice_bounds-page_as_bytes-end-in-Count : goal.slice_bounds-page_as_bytes-end-in-Count
-slice_bounds-page_as_bytes-end-in-Count c = sym (length-take-le _ _ (within c))
+pub slice_bounds-page_as_bytes-end-in-Ok : goal.slice_bounds-page_as_bytes-end-in-Ok
+slice_bounds-page_as_bytes-end-in-Ok c = sym (length-take-le _ _ (within c))
 
-pub returns-in-Count : goal.returns-in-Count
-returns-in-Count c =
+pub returns-in-Ok : goal.returns-in-Ok
+returns-in-Ok c =
     let a = c.args in
     let table = table_of a.page in
     let p = is_page_lem a.page in
-    let g = in-page-granted table a.text.now a.between.now c.to_page.ensures c.in-Count.n c.in-Count.is in
+    let g = in-page-granted table a.text.now a.between.now c.to_page.ensures c.in-Ok.n c.in-Ok.is in
     round-granted (to_page_says table (length a.between.now)) (in_page table) (as_bytes_says table (length a.back.now)) a.text.now a.between.now c.to_page.ensures
-    (as_bytes table) c.in-Count.n c.in-Count.is (wrote (goal.at.returns-in-Count c).In-Count).0 a.back.now _ c.page_as_bytes.result c.page_as_bytes.ensures
+    (as_bytes table) c.in-Ok.n c.in-Ok.is (wrote (goal.at.returns-in-Ok c).In-Ok).0 a.back.now _ c.page_as_bytes.result c.page_as_bytes.ensures
     (bytes-page-bytes table p a.text.now g.clean g.held) (as-bytes-told table p a.text.now (length a.back.now) g.clean g.held)
 
-pub returns-in-Refused : goal.returns-in-Refused
-returns-in-Refused c =
+pub returns-in-Err : goal.returns-in-Err
+returns-in-Err c =
     let a = c.args in
     let table = table_of a.page in
-    let r = c.in-Refused.why in
-    let e = c.in-Refused.is in
+    let r = c.in-Err.why in
+    let e = c.in-Err.is in
     let says = to_page_says table (length a.between.now) a.text.now in
     let told = refused_as says (in_page table a.text.now) a.between.now c.to_page.ensures r e in
     let due : List ℕ → Bool = λ l. due_into l (check_says bytes a.text.now) (held_up_to table a.text.now) (length a.text.now) (length a.between.now) in

@@ -1,31 +1,30 @@
--- A number that was found is had; one that no byte stands for is lacking.
-use mathlib.Core.Path.{◌≡◌, sym}
-use Prim.Native.Nat.{ℕ}
-use lib.ListN.{length, get_or}
-use borrow.Author.Count.{below_more}
+-- A page has a number of which a byte is told to stand for it.
+use mathlib.Core.Path.{◌≡◌, refl, sym, ◌∙◌}
+use Prim.Native.Nat.{ℕ, suc}
+use mathlib.Core.List.{List, [], ◌∷◌}
+use lib.ListN.{length}
+use lib.Dec.{eqb, ltb}
+use borrow.Author.Tests.{ltb-true, ltb-false, lt-ltb, le-ltb}
 use native.Mathlib.Omega.{arith}
+use Rattle.std.specs.Prelude.{◌==◌}
+use Rattle.std.specs.List.{list_any}
+use Rattle.theory.proofs.Cases.{split}
+use Rattle.page.specs.Paged.{place_of, has}
 use Rattle.page.specs.Tables.{table_of}
-use Rattle.page.proofs.PlaceInTable.{stands-has, lacks}
-use Rattle.page.proofs.ThreePages.{is_page_lem}
 use Rattle.demand_page.proofs.has.Goals as goal
 
-pub loop-b-init : goal.loop-b-init
-loop-b-init c = (omega arith, λ k h e. absurd (omega arith))
+less_on : (m n : ℕ) → ltb m n ≡ ltb (suc m) (suc n)
+less_on m n = split (ltb m n)
+    (λ e. e ∙ sym (lt-ltb (suc m) (suc n) (omega (arith, ltb-true m n e))))
+    (λ e. e ∙ sym (le-ltb (suc m) (suc n) (omega (arith, ltb-false m n e))))
 
-pub returns-then-numbers-b : goal.returns-then-numbers-b
-returns-then-numbers-b c =
-    let a = c.args in
-    let t = table_of a.page in
-    let long : length t ≡ 256 = (is_page_lem a.page).long in
-    sym (stands-has a.c t c.loop-b.b (omega (arith, long, c.loop-b-test.true)) (rw (← c.numbers-numbers.ensures) c.if-numbers-b.true))
-
-pub loop-b-preserved : goal.loop-b-preserved
-loop-b-preserved c =
-    (omega (arith, c.loop-b-test.true), below_more (λ (k : ℕ). get_or c.numbers-numbers.result k 0 ≡ c.args.c → ⊥) c.loop-b.b c.loop-b.invariant.1 c.if-numbers-b.false)
+any_has : (c : ℕ) (table : List ℕ) → list_any (λ n. n == c) table ≡ has table c
+any_has c [] = refl
+any_has c (n ∷ ns) = split (eqb n c)
+    (λ e. rw e (sym (lt-ltb 0 (suc (length ns)) (omega arith))))
+    (λ e. rw e (any_has c ns ∙ less_on (place_of c ns) (length ns)))
 
 pub returns : goal.returns
 returns c =
     let a = c.args in
-    let t = table_of a.page in
-    let long : length t ≡ 256 = (is_page_lem a.page).long in
-    sym (lacks a.c t (λ b h e. c.loop-b.invariant.1 b (omega (arith, long, h, c.loop-b-test.false)) (rw c.numbers-numbers.ensures e)))
+    c.stands.ensures ∙ rw c.numbers.ensures (any_has a.c (table_of a.page))

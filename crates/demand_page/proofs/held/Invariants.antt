@@ -5,8 +5,8 @@ use Rattle.page.specs.Tables.{table_of}
 use Rattle.demand_page.proofs.PlainWalk.{Passed}
 use Rattle.demand_page.proofs.held.Given as goal
 
-abbrev pub invariant-loop-at : goal.invariant-loop-at
-invariant-loop-at l = Passed (table_of l.page) l.text l.at
+abbrev pub invariant-loop-p : goal.invariant-loop-p
+invariant-loop-p l = Passed (table_of l.page) l.text l.at
 
-abbrev pub decreases-loop-at : goal.decreases-loop-at
-decreases-loop-at l = length l.text - l.at
+abbrev pub decreases-loop-p : goal.decreases-loop-p
+decreases-loop-p l = length l.text - l.at

@@ -18,42 +18,42 @@ use Rattle.demand_page.specs.Rounds.{as_bytes, as_bytes_says, in_page}
 use Rattle.demand_page.proofs.PageRounds.{as-bytes-count, in-page-told, three-enough}
 use Rattle.demand_page.proofs.RefusalDue.{due-from}
 use Rattle.demand_page.proofs.WayBack.{round-granted, round-refused}
-use Rattle.demand_page.proofs.page_bytes.Goals.{In-Count}
+use Rattle.demand_page.proofs.page_bytes.Goals.{In-Ok}
 use Rattle.demand_page.proofs.page_bytes.Goals as goal
 
 -- what was written is the form, and lies within the output
-wrote : (c : In-Count)
+wrote : (c : In-Ok)
     → let a = c.args in
-    (c.in-Count.n ≡ length (as_bytes (table_of a.page) a.text.now)) × (c.in-Count.n ≤ length a.between.now)
+    (c.in-Ok.n ≡ length (as_bytes (table_of a.page) a.text.now)) × (c.in-Ok.n ≤ length a.between.now)
 wrote c =
     let a = c.args in
-    as-bytes-count (table_of a.page) a.text.now a.between.now c.to_bytes.ensures c.in-Count.n c.in-Count.is
+    as-bytes-count (table_of a.page) a.text.now a.between.now c.to_bytes.ensures c.in-Ok.n c.in-Ok.is
 
-within : (c : In-Count) → c.in-Count.n ≤ length c.to_bytes.new.out
+within : (c : In-Ok) → c.in-Ok.n ≤ length c.to_bytes.new.out
 within c = omega (arith, (wrote c).1, c.to_bytes.auto.out)
 
 pub slice_bounds-bytes_in_page-end : goal.slice_bounds-bytes_in_page-end
 slice_bounds-bytes_in_page-end c = within c
 
-pub slice_bounds-bytes_in_page-end-in-Count : goal.slice_bounds-bytes_in_page-end-in-Count
-slice_bounds-bytes_in_page-end-in-Count c = sym (length-take-le _ _ (within c))
+pub slice_bounds-bytes_in_page-end-in-Ok : goal.slice_bounds-bytes_in_page-end-in-Ok
+slice_bounds-bytes_in_page-end-in-Ok c = sym (length-take-le _ _ (within c))
 
-pub returns-in-Count : goal.returns-in-Count
-returns-in-Count c =
+pub returns-in-Ok : goal.returns-in-Ok
+returns-in-Ok c =
     let a = c.args in
     let table = table_of a.page in
     let p = is_page_lem a.page in
     let small : (i : ℕ) → get_or a.text.now i 0 < 256 = λ i. omega (arith, c.type_inv.text i) in
     round-granted (as_bytes_says table (length a.between.now)) (as_bytes table) (to_page_says table (length a.back.now)) a.text.now a.between.now c.to_bytes.ensures
-    (in_page table) c.in-Count.n c.in-Count.is (wrote (goal.at.returns-in-Count c).In-Count).0 a.back.now _ c.bytes_in_page.result c.bytes_in_page.ensures
+    (in_page table) c.in-Ok.n c.in-Ok.is (wrote (goal.at.returns-in-Ok c).In-Ok).0 a.back.now _ c.bytes_in_page.result c.bytes_in_page.ensures
     (page-bytes-page table p a.text.now small) (in-page-told table p a.text.now (length a.back.now) small)
 
-pub returns-in-Refused : goal.returns-in-Refused
-returns-in-Refused c =
+pub returns-in-Err : goal.returns-in-Err
+returns-in-Err c =
     let a = c.args in
     let table = table_of a.page in
-    let r = c.in-Refused.why in
-    let e = c.in-Refused.is in
+    let r = c.in-Err.why in
+    let e = c.in-Err.is in
     let says = as_bytes_says table (length a.between.now) a.text.now in
     let told = refused_as says (as_bytes table a.text.now) a.between.now c.to_bytes.ensures r e in
     let most = most_of Units Bytes (length a.text.now) in
