@@ -28,10 +28,17 @@ fn feed(rt: &impl Print, state: Decoder, piece: &[u8], list: &mut [u32]) -> io::
 }
 
 // How many places were written; then the elements in whole segments, the damaged ones and the damages.
-pub(crate) fn totals(rt: &impl Print, name: &str, answer: Result<Totals, Refusal>) -> io::Result<()> {
+pub(crate) fn totals(
+    rt: &impl Print,
+    name: &str,
+    answer: Result<Totals, Refusal>,
+) -> io::Result<()> {
     print!(rt; "{name}")?;
     match answer {
-        Ok(all) => print!(rt; " {} {} {} {}", all.written, all.whole, all.damaged, all.count)?,
+        Ok(all) => print!(rt;
+            " {} {} {} {}",
+            all.written, all.whole, all.damaged, all.count
+        )?,
         Err(r) => crate::show::refused(rt, r)?,
     }
     print!(rt; ", list")

@@ -127,7 +127,11 @@ pub(crate) fn checked(rt: &impl Print, c: Result<(), Refusal>) -> io::Result<()>
     println!(rt)
 }
 
-pub(crate) fn wrote_bytes(rt: &impl Print, answer: Result<usize, Refusal>, out: &[u8]) -> io::Result<()> {
+pub(crate) fn wrote_bytes(
+    rt: &impl Print,
+    answer: Result<usize, Refusal>,
+    out: &[u8],
+) -> io::Result<()> {
     match answer {
         Ok(n) => first_bytes(rt, out, n)?,
         Err(r) => refused(rt, r)?,
@@ -135,7 +139,11 @@ pub(crate) fn wrote_bytes(rt: &impl Print, answer: Result<usize, Refusal>, out: 
     println!(rt)
 }
 
-pub(crate) fn wrote_units(rt: &impl Print, answer: Result<usize, Refusal>, out: &[u16]) -> io::Result<()> {
+pub(crate) fn wrote_units(
+    rt: &impl Print,
+    answer: Result<usize, Refusal>,
+    out: &[u16],
+) -> io::Result<()> {
     match answer {
         Ok(n) => first_units(rt, out, n)?,
         Err(r) => refused(rt, r)?,
@@ -143,7 +151,11 @@ pub(crate) fn wrote_units(rt: &impl Print, answer: Result<usize, Refusal>, out: 
     println!(rt)
 }
 
-pub(crate) fn wrote_points(rt: &impl Print, answer: Result<usize, Refusal>, out: &[u32]) -> io::Result<()> {
+pub(crate) fn wrote_points(
+    rt: &impl Print,
+    answer: Result<usize, Refusal>,
+    out: &[u32],
+) -> io::Result<()> {
     match answer {
         Ok(n) => first_points(rt, out, n)?,
         Err(r) => refused(rt, r)?,

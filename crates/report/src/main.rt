@@ -103,7 +103,10 @@ fn totals(rt: &impl Print, state: Decoder, list: &mut [u32]) -> io::Result<()> {
     match decoder::finish(state, &mut out, list).answer {
         Ok(all) => {
             entries(rt, list, all.count)?;
-            println!(rt; "total {} whole {} damaged {}", all.count, all.whole, all.damaged)
+            println!(rt;
+                "total {} whole {} damaged {}",
+                all.count, all.whole, all.damaged
+            )
         }
         Err(r) => refused(rt, r),
     }
