@@ -65,6 +65,7 @@ pub fn admit(sound: bool, taken: usize, room: usize, more: usize, row: usize) ->
 }
 
 // Entry i of a list, where i is below the room and the list has places for it.
+#[inline]
 pub fn enter(list: &mut [u32], room: usize, i: usize, start: u32, length: u32, cause: Cause)
     ensures { list.new ≡ entered room list.old i start length (number_of cause) }
 {

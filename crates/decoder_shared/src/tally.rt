@@ -22,6 +22,7 @@ pub struct Settled {
 }
 
 // A number of an entry has 32 bits.
+#[inline]
 fn entry(n: usize) -> u32
     ensures { result ≡ n % 2 ^ 32 }
 {
@@ -30,6 +31,7 @@ fn entry(n: usize) -> u32
 
 impl Tally {
     // So many elements more in whole segments. Sums are modulo 2^64.
+    #[inline]
     pub fn pass(self, n: usize) -> Tally
         ensures { result ≡ passed_by self n }
     {
@@ -40,6 +42,7 @@ impl Tally {
     }
 
     // A damage of so many elements is entered with its cause, where the list has room for it, and counted. An entry's numbers are modulo 2^32.
+    #[inline]
     pub fn strike(self, n: usize, cause: Cause, room: usize, list: &mut [u32]) -> Tally
         ensures { (result ≡ struck_by self n) × (list.new ≡ listed_by self n (number_of cause) room list.old) }
     {
@@ -65,6 +68,7 @@ impl Tally {
     }
 
     // The segment that stands first in a text is tallied, if it is settled.
+    #[inline]
     pub fn take(self, seg: First, room: usize, list: &mut [u32]) -> Tally
         ensures { (result ≡ taken_by self seg) × (list.new ≡ told_list self seg room list.old) }
     {

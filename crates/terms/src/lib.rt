@@ -83,6 +83,7 @@ pub enum First {
 
 impl First {
     // How many elements it has.
+    #[inline]
     pub fn size(self) -> usize
         ensures { result ≡ size_of self }
     {
@@ -95,6 +96,7 @@ impl First {
     }
 
     // Why it is damaged, if it is.
+    #[inline]
     pub fn cause(self) -> Option<Cause>
         ensures { told_cause result ≡ cause_told self }
     {

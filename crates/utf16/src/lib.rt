@@ -11,6 +11,7 @@ ghost use Rattle.utf16.specs.Alone.{alone, all_alone};
 use terms::{Cause, First, Point};
 
 // The segment that stands first in a text.
+#[inline]
 pub fn segment(text: &[u16]) -> First
     ensures { told_first result ≡ first_says units text.now }
 {
@@ -41,6 +42,7 @@ pub fn segment(text: &[u16]) -> First
 }
 
 // The code point that stands first in a text, if there is one.
+#[inline]
 pub fn point(text: &[u16]) -> Option<Point>
     ensures { result ≡ first_point utf16 text.now }
 {

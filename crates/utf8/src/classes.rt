@@ -15,12 +15,14 @@ pub enum Lead {
 }
 
 // The class that a table gives a byte.
+#[inline]
 fn class_in(classes: &[u8; 256], b: u8) -> u8
     ensures { result ≡ class_in classes.now b }
 {
     classes[b as usize]
 }
 
+#[inline]
 fn lead_of(class: u8) -> Lead
     ensures { (wanted_behind rows_of_classes class ≡ wanted class result) × (lone_class class ≡ cause_in class result) }
 {
@@ -41,6 +43,7 @@ fn lead_of(class: u8) -> Lead
 }
 
 // Is it a class of later bytes?
+#[inline]
 fn later(class: u8) -> bool
     ensures { result ≡ within any_later class }
 {
@@ -53,6 +56,7 @@ fn later(class: u8) -> bool
 }
 
 // Is a later byte of this class barred behind a byte of that one? E0 wants A0..BF, ED 80..9F, F0 90..BF and F4 80..8F.
+#[inline]
 fn barred(lead: u8, class: u8) -> bool
     ensures { within any_later class && not result ≡ within (wanted_next lead) class }
 {
@@ -66,6 +70,7 @@ fn barred(lead: u8, class: u8) -> bool
 }
 
 // May a byte of one class stand right behind a byte of the other in a sequence?
+#[inline]
 fn goes_on(lead: u8, class: u8) -> bool
     ensures { result ≡ within (wanted_next lead) class }
 {
@@ -73,6 +78,7 @@ fn goes_on(lead: u8, class: u8) -> bool
 }
 
 // Reads on behind a text's first byte, which has this class and wants so many more.
+#[inline]
 fn follow(text: &[u8], classes: &[u8; 256], class: u8, more: usize) -> First
     ensures { told_first result ≡ look_says (want (laters more class) (map (class_in classes.now) (drop 1 text.now))) }
 {
@@ -92,6 +98,7 @@ fn follow(text: &[u8], classes: &[u8; 256], class: u8, more: usize) -> First
 }
 
 // The segment that stands first in a text, by any table of classes.
+#[inline]
 pub fn segment_by(text: &[u8], classes: &[u8; 256]) -> First
     ensures { told_first result ≡ first_says (by_classes classes.now) text.now }
 {

@@ -39,6 +39,7 @@ fn wide(b: u8) -> u32
 }
 
 // The number that a sequence of n bytes at the start of a text stands for.
+#[inline]
 fn number_of(text: &[u8], n: usize) -> u32
     requires n_nonzero { 0 < n }
     requires n_bound { n ≤ 4 }
@@ -62,6 +63,7 @@ fn number_of(text: &[u8], n: usize) -> u32
 }
 
 // The code point that stands first in a text, if there is one, by any table of classes.
+#[inline]
 pub fn point_by(text: &[u8], classes: &[u8; 256]) -> Option<Point>
     ensures { result ≡ first_point (utf8_by classes.now) text.now }
 {
