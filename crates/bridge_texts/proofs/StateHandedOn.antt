@@ -64,9 +64,6 @@ module _ {S : Type 0} (D : Decoding S) (numbers : S → List ℕ) (n : ℕ) wher
 
 -- ---- the watch
 
-pub unwatched : {called : Bool} {d : Decoder} {b : ℕ} {state : List ℕ} → called ≡ false → Watches called d b state state not_called
-unwatched e = rw e (record { reply = refl; next = refl })
-
 pub was_watched : {called : Bool} {d q : Decoder} {b : ℕ} {state state' : List ℕ} {w : Watched} → called ≡ true → q ≡ d
     → w ≡ watching q b → 9 ≤ length state → state' ≡ kept 9 (decoder_numbers w.state) state → Watches called d b state state' w.reply
 was_watched {state = state} {w = v} e q w long k =

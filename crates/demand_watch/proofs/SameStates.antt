@@ -1,12 +1,11 @@
 -- The comparison of two states says yes exactly of the same, and a feed from the fresh state is refused only where that is due.
 use mathlib.Core.Path.{◌≡◌, sym, ap, ◌∙◌}
-use Prim.Native.Nat.{ℕ, ◌/◌, ◌*◌}
-use mathlib.Core.Logic.{◌↔◌}
+use Prim.Native.Nat.{ℕ, ◌*◌}
 use mathlib.Core.Bool.{Bool, true, true≢false}
 use mathlib.Core.List.{List, [], ◌∷◌}
 use lib.ListN.{length}
 use lib.Dec.{ltb, eqb}
-use borrow.Author.Tests.{eq-eqb, eqb-true, lt-ltb, le-ltb, le-leb}
+use borrow.Author.Tests.{eq-eqb, eqb-true, lt-ltb, le-leb}
 use native.Mathlib.Omega.{arith}
 use Rattle.theory.proofs.Cases.{split, both, under}
 use Rattle.terms.specs.Limits.{limit, most_room, entry_width, fresh_of}
@@ -66,19 +65,7 @@ same_if d e h =
     (at (λ k. k.whole)) (at (λ k. k.damaged)) (at (λ k. k.count)))
     ∙ eq-eqb d.room e.room (at (λ k. k.room))
 
--- so a test that says yes exactly of the same is the comparison
-pub states-compared : {r : Bool} (d e : Decoder) → (r ≡ true) ↔ (d ≡ e) → r ≡ same_state d e
-states-compared {r} d e h = split r
-    (λ t. t ∙ sym (same_if d e (h.0 t)))
-    (λ t. t ∙ split (same_state d e) (λ f. absurd (true≢false (sym (h.1 (same_is d e f)) ∙ t))) (λ f. sym f))
-
 -- ---- a refusal
-
--- the list is too short for the room
-pub short-list : (row room : ℕ) → ltb (row / entry_width) room ≡ ltb row (entry_width * room)
-short-list row room = under row (entry_width * room)
-    (λ h. lt-ltb (row / entry_width) room (omega arith) ∙ sym (lt-ltb row (entry_width * room) h))
-    (λ h. le-ltb (row / entry_width) room (omega arith) ∙ sym (le-ltb row (entry_width * room) h))
 
 module _ (room : ℕ) (text out list : List ℕ) (why : Refusal) (e : told_refusal why ≡ feed_says (fresh_of room) text out list) where
   abbrev asked : Refusal → Bool
