@@ -1,8 +1,6 @@
 -- The states and a place, as numbers in a lent slice.
 use Rattle.std.specs.Prelude.{ℕ, ◌%◌, Bool, cond, ◌&&◌, List, [], ◌∷◌, length, get_or, leb, ltb, eqb}
 use Rattle.terms.specs.Limits.{most_pending}
-use Rattle.terms.specs.declared.Cause.{Cause}
-use Rattle.terms.specs.declared.Cause.TheVariants.{Stray, Foreign, Stopped, Ended}
 use Rattle.terms.specs.declared.Decoder.{Decoder}
 use Rattle.terms.specs.declared.First.{First}
 use Rattle.terms.specs.declared.First.TheVariants.{Nothing, Whole, Damage, Begun}
@@ -96,11 +94,7 @@ abbrev pub offset_of : ℕ → ℕ → Offset
 offset_of kind n =
     cond (eqb kind 0) (Byte (record { 0 = n })) (cond (eqb kind 1) (Unit (record { 0 = n })) (cond (eqb kind 2) (Point (record { 0 = n })) (Line (record { 0 = n }))))
 
--- the cause of a number: where it is none of 1 to 3, the end of the text
-abbrev pub cause_of : ℕ → Cause
-cause_of number = cond (eqb number 1) Stray (cond (eqb number 2) Foreign (cond (eqb number 3) Stopped Ended))
-
 -- what stands first, by its kind, its size and the cause of damage
 abbrev pub first_of : ℕ → ℕ → ℕ → First
 first_of kind n cause =
-    cond (eqb kind 0) Nothing (cond (eqb kind 1) (Whole n) (cond (eqb kind 2) (Damage n (cause_of cause)) (Begun n)))
+    cond (eqb kind 0) Nothing (cond (eqb kind 1) (Whole n) (cond (eqb kind 2) (Damage n (record { 0 = cause })) (Begun n)))

@@ -77,7 +77,7 @@ pub fn say_first(a: First) -> Said
         First::Nothing => say([]),
         First::Whole(n) => say([0, n, 1, 0]),
         First::Damage(n, cause) => say([1, n, 1, cause.number() as usize]),
-        First::Begun(n) => say([1, n, 0, Cause::Ended.number() as usize]),
+        First::Begun(n) => say([1, n, 0, Cause::ENDED.number() as usize]),
     }
 }
 

@@ -2,7 +2,7 @@
 ghost use Rattle.std.specs.Prelude.{◌%◌, ◌≤◌, ◌≡◌, length, get_or};
 ghost use Rattle.index_checkpoint.specs.Checkpoints.{place_of};
 ghost use Rattle.bridge_numbers.specs.Telling.{put};
-ghost use Rattle.bridge_numbers.specs.States.{is_state, held_of, decoder_of, decoder_numbers, is_unit_state, unit_decoder_of, unit_decoder_numbers, builder_of, builder_numbers, kept, offset_of, cause_of, first_of};
+ghost use Rattle.bridge_numbers.specs.States.{is_state, held_of, decoder_of, decoder_numbers, is_unit_state, unit_decoder_of, unit_decoder_numbers, builder_of, builder_numbers, kept, offset_of, first_of};
 
 use decoder_from_utf16::UnitDecoder;
 use index_build::Builder;
@@ -193,18 +193,6 @@ pub fn offset_of(kind: usize, n: usize) -> Offset
     }
 }
 
-// The cause of a number: 1 to 3, else the end of the text.
-fn cause_of(number: u32) -> Cause
-    ensures { result ≡ cause_of number }
-{
-    match number {
-        1 => Cause::Stray,
-        2 => Cause::Foreign,
-        3 => Cause::Stopped,
-        _ => Cause::Ended,
-    }
-}
-
 // What stands first, of a size: 0 nothing, 1 whole, 2 damage of a cause, else begun.
 pub fn first_of(kind: usize, n: usize, cause: u32) -> First
     ensures { result ≡ first_of kind n cause }
@@ -212,7 +200,7 @@ pub fn first_of(kind: usize, n: usize, cause: u32) -> First
     match kind {
         0 => First::Nothing,
         1 => First::Whole(n),
-        2 => First::Damage(n, cause_of(cause)),
+        2 => First::Damage(n, Cause(cause)),
         _ => First::Begun(n),
     }
 }

@@ -3,13 +3,13 @@ use mathlib.Core.Path.{◌≡◌, refl, sym, ◌∙◌}
 use Prim.Native.Nat.{ℕ, ◌<◌}
 use mathlib.Core.Bool.{true, false}
 use mathlib.Core.List.{List}
+use Rattle.theory.specs.Table.{foreign}
 use lib.ListN.{length, get_or}
 use native.Mathlib.Omega.{arith}
 use Rattle.theory.proofs.Cases.{split}
 use Rattle.theory.proofs.Divisions.{Division, cut-cons}
 use Rattle.terms.specs.Form.{is_scalar}
 use Rattle.terms.specs.Told.{told_first, first_says}
-use Rattle.terms.specs.declared.Cause.TheVariants.{Foreign}
 use Rattle.terms.specs.declared.First.TheVariants.{Whole, Damage}
 use Rattle.terms.proofs.FaithfulForms.{Faithful}
 use Rattle.terms.proofs.WalkBySegments.{says-look}
@@ -33,6 +33,6 @@ module _ (text : List ℕ) (some-there : 0 < length text) where
   unfolding points
   first-scalar s = sym (says-look points text some-there ∙ rw s)
 
-  pub first-other : is_scalar (get_or text 0 0) ≡ false → told_first (Damage 1 Foreign) ≡ first_says points text
+  pub first-other : is_scalar (get_or text 0 0) ≡ false → told_first (Damage 1 (record { 0 = foreign })) ≡ first_says points text
   unfolding points
   first-other s = sym (says-look points text some-there ∙ rw s)

@@ -25,7 +25,7 @@ pub fn segment(text: &[u32]) -> First
     if is_scalar(text[0]) {
         return First::Whole(1);
     }
-    First::Damage(1, Cause::Foreign)
+    First::Damage(1, Cause::FOREIGN)
 }
 
 // The code point that stands first in a text, if there is one.

@@ -31,7 +31,8 @@ fn count_segments(text: &[u16], stop: usize) -> Part
     Part { read: at, places }
 }
 
-// How many bytes the beginning of a text takes: a block of units that stand alone at once, or the code points that begin in its length.
+// How many bytes the beginning of a text takes: a block of units that stand alone at once, or the code points that begin in its length. Where
+// that is 128, the walk has a bound that the compiler knows: with the smaller of two as its bound each code point took a sixth more.
 fn count_part(text: &[u16]) -> Part
     requires { (0 < length text.now) × (length text.now ≤ limit) }
     ensures { Passes utf16 utf8 text.now result.read result.places }
@@ -39,7 +40,10 @@ fn count_part(text: &[u16]) -> Part
     if let Some(p) = convert_utf16_blocks::count_block(text) {
         return p;
     }
-    count_segments(text, text.len().min(128))
+    if text.len() < 128 {
+        return count_segments(text, text.len());
+    }
+    count_segments(text, 128)
 }
 
 // How many bytes a text takes.
@@ -112,7 +116,10 @@ fn write_sixteen(text: &[u16], out: &mut [u8]) -> Part
     if let Some(p) = convert_utf16_blocks::put_sixteen(text, out) {
         return p;
     }
-    write_segments(text, text.len().min(128), out)
+    if text.len() < 128 {
+        return write_segments(text, text.len(), out);
+    }
+    write_segments(text, 128, out)
 }
 
 // The bytes of the beginning of a text: a block of units that stand alone at once, or less.

@@ -1,2 +1,2 @@
--- Bytes of a text that stand at the start of an output: one more of them, and the whole text
+-- Bytes of a text that stand at the start of an output: one more of them, and a block of sixteen more
 pub mod Copied

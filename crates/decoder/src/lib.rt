@@ -162,7 +162,7 @@ fn end(state: Decoder, out: &mut [u8], list: &mut [u32]) -> Finished
             state,
         };
     }
-    let all = begin(state).mend(state.pending, Cause::Ended, state.room, out, list);
+    let all = begin(state).mend(state.pending, Cause::ENDED, state.room, out, list);
     Finished {
         answer: Ok(all.tally.totals(all.written)),
         state: Decoder::fresh(state.room),

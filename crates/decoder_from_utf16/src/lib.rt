@@ -268,7 +268,7 @@ fn end(state: UnitDecoder, out: &mut [u8], list: &mut [u32]) -> Finished
         };
     }
     convert_point::put_bytes(out, 0xFFFD);
-    let all = tally_of(state).strike(state.pending, Cause::Ended, state.room, list);
+    let all = tally_of(state).strike(state.pending, Cause::ENDED, state.room, list);
     Finished {
         answer: Ok(all.totals(needed)),
         state: UnitDecoder::fresh(state.room),

@@ -156,7 +156,7 @@ fn end(state: Decoder, out: &mut [u16], list: &mut [u32]) -> Finished
         };
     }
     convert_point::put_units(out, 0xFFFD);
-    let all = tally_of(state).strike(state.pending, Cause::Ended, state.room, list);
+    let all = tally_of(state).strike(state.pending, Cause::ENDED, state.room, list);
     Finished {
         answer: Ok(all.totals(needed)),
         state: Decoder::fresh(state.room),

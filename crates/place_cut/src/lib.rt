@@ -11,7 +11,8 @@ ghost use Rattle.place.specs.Walk.{number, measure, Roomy, reached, last_says};
 use place::{Bytes, Offset, Place, Points, Units};
 use terms::Refusal;
 
-// The last place that counts at most so much, from a place on; the text is given from there.
+// The last place that counts at most so much, from a place on; the text is given from there. Put into each call, it counts in one measure.
+#[inline(always)]
 fn reach(text: &[u8], from: Place, most: Offset, classes: &[u8; 256]) -> Place
     requires roomy { Roomy from text.now }
     requires classes_value { by_classes classes.now ≡ bytes }

@@ -5,11 +5,8 @@ use mathlib.Core.Bool.{false, cond}
 use mathlib.Core.List.{List, [], ◌∷◌}
 use lib.ListN.{length, get_or}
 use lib.Dec.{eqb}
-use native.Mathlib.Omega.{arith}
-use Rattle.std.specs.Prelude.{is_ok, Option, None, Some, Result, Ok, Err}
-use Rattle.terms.specs.Told.{is_granted, number_of, told_cause, told_refusal, told_first, told, told_checked, told_written}
-use Rattle.terms.specs.declared.Cause.{Cause}
-use Rattle.terms.specs.declared.Cause.TheVariants.{Stray, Foreign, Stopped, Ended}
+use Rattle.std.specs.Prelude.{is_ok, Result, Ok, Err}
+use Rattle.terms.specs.Told.{is_granted, caused, cause_told, told_cause, told_refusal, told_first, told, told_checked, told_written}
 use Rattle.terms.specs.declared.First.{First}
 use Rattle.terms.specs.declared.First.TheVariants.{Nothing, Whole, Damage, Begun}
 use Rattle.terms.specs.declared.Refusal.{Refusal}
@@ -19,41 +16,23 @@ use Rattle.terms.specs.declared.Refusal.TheVariants.{Damaged, OverLimit, NoRoom,
 pub by-back : {A : Type 0} (told : A → List ℕ) (back : List ℕ → A) → ((a : A) → back (told a) ≡ a) → (a b : A) → told a ≡ told b → a ≡ b
 by-back told back h a b e = sym (h a) ∙ ap back e ∙ h b
 
-unfoldable pub back_cause : ℕ → Cause
-back_cause n = cond (eqb n 1) Stray (cond (eqb n 2) Foreign (cond (eqb n 3) Stopped Ended))
-
-pub cause_back : (c : Cause) → back_cause (number_of c) ≡ c
-unfolding back_cause
-cause_back Stray = refl
-cause_back Foreign = refl
-cause_back Stopped = refl
-cause_back Ended = refl
-
-some_number : (c : Cause) → number_of c ≡ 0 → ⊥
-some_number Stray e = omega (arith, e)
-some_number Foreign e = omega (arith, e)
-some_number Stopped e = omega (arith, e)
-some_number Ended e = omega (arith, e)
-
-pub number_of_lem : (a b : Cause) → number_of a ≡ number_of b → a ≡ b
-number_of_lem a b e = sym (cause_back a) ∙ ap back_cause e ∙ cause_back b
-
-pub told-cause : (a b : Option Cause) → told_cause a ≡ told_cause b → a ≡ b
-told-cause None None e = refl
-told-cause None (Some b) e = absurd (some_number b (sym e))
-told-cause (Some a) None e = absurd (some_number a e)
-told-cause (Some a) (Some b) e = ap (λ (c : Cause). Some c) (number_of_lem a b e)
+-- the cause of what stands first, by its number
+pub caused-told : (f : First) → told_cause (caused f) ≡ cause_told f
+caused-told Nothing = refl
+caused-told (Whole n) = refl
+caused-told (Damage n cause) = refl
+caused-told (Begun n) = refl
 
 unfoldable pub back_refusal : List ℕ → Refusal
 back_refusal l =
     let n = get_or l 0 0 in
     let v = get_or l 1 0 in
-    cond (eqb n 1) (Damaged v (get_or l 2 0) (back_cause (get_or l 3 0))) (cond (eqb n 2) OverLimit (cond (eqb n 3) (NoRoom v) (cond (eqb n 4) PastEnd
+    cond (eqb n 1) (Damaged v (get_or l 2 0) (record { 0 = get_or l 3 0 })) (cond (eqb n 2) OverLimit (cond (eqb n 3) (NoRoom v) (cond (eqb n 4) PastEnd
     (cond (eqb n 5) Inside (cond (eqb n 6) (Unusable v) (cond (eqb n 7) ListRoom (cond (eqb n 8) BadState (cond (eqb n 9) (NoScalar v) (NotInPage v)))))))))
 
 pub refusal_back : (a : Refusal) → back_refusal (told_refusal a) ≡ a
 unfolding back_refusal
-refusal_back (Damaged start length cause) = rw (cause_back cause)
+refusal_back (Damaged start length cause) = refl
 refusal_back OverLimit = refl
 refusal_back (NoRoom needed) = refl
 refusal_back PastEnd = refl
@@ -70,13 +49,13 @@ told_refusal_lem = by-back told_refusal back_refusal refusal_back
 back_first : List ℕ → First
 back_first l =
     let n = get_or l 1 0 in
-    cond (eqb (length l) 0) Nothing (cond (eqb (get_or l 2 0) 0) (Begun n) (cond (eqb (get_or l 0 0) 0) (Whole n) (Damage n (back_cause (get_or l 3 0)))))
+    cond (eqb (length l) 0) Nothing (cond (eqb (get_or l 2 0) 0) (Begun n) (cond (eqb (get_or l 0 0) 0) (Whole n) (Damage n (record { 0 = get_or l 3 0 }))))
 
 first_back : (a : First) → back_first (told_first a) ≡ a
 unfolding back_first
 first_back Nothing = refl
 first_back (Whole n) = refl
-first_back (Damage n cause) = rw (cause_back cause)
+first_back (Damage n cause) = refl
 first_back (Begun n) = refl
 
 pub told-first : (a b : First) → told_first a ≡ told_first b → a ≡ b

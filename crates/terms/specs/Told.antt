@@ -1,20 +1,16 @@
 -- What each answer tells, in the paper's numbers: the refusal's number and its values, or 0 and the values of what was granted.
 use Rattle.std.specs.Prelude.{ℕ, suc, Bool, cond, List, [], ◌∷◌, get_or, eqb, Option, None, Some, Result, Ok, Err}
 use Rattle.theory.specs.Reader.{Look, Reader}
-use Rattle.theory.specs.Table.{stray, foreign, stopped, ended, Kind, is_damage, cause_of}
+use Rattle.theory.specs.Table.{ended, Kind, is_damage, cause_of}
 use Rattle.terms.specs.declared.Cause.{Cause}
-use Rattle.terms.specs.declared.Cause.TheVariants.{Stray, Foreign, Stopped, Ended}
 use Rattle.terms.specs.declared.First.{First}
 use Rattle.terms.specs.declared.First.TheVariants.{Nothing, Whole, Damage, Begun}
 use Rattle.terms.specs.declared.Refusal.{Refusal}
 use Rattle.terms.specs.declared.Refusal.TheVariants.{Damaged, OverLimit, NoRoom, PastEnd, Inside, Unusable, ListRoom, BadState, NoScalar, NotInPage}
 
--- the causes by their numbers, 0 for none
+-- the causes by their numbers, whatever number one is, and 0 for none
 abbrev pub number_of : Cause → ℕ
-number_of Stray = stray
-number_of Foreign = foreign
-number_of Stopped = stopped
-number_of Ended = ended
+number_of c = c.0
 
 abbrev pub told_cause : Option Cause → ℕ
 told_cause None = 0
@@ -53,6 +49,12 @@ cause_told Nothing = 0
 cause_told (Whole n) = 0
 cause_told (Damage n cause) = number_of cause
 cause_told (Begun n) = ended
+
+abbrev pub caused : First → Option Cause
+caused Nothing = None
+caused (Whole n) = None
+caused (Damage n cause) = Some cause
+caused (Begun n) = Some (record { 0 = ended })
 
 -- AN ANSWER: 0 and the values of what was granted, or the refusal
 abbrev pub told : {A : Type 0} → (A → List ℕ) → Result A Refusal → List ℕ

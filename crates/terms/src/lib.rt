@@ -3,7 +3,7 @@
 
 ghost use Rattle.std.specs.Prelude.{◌≡◌, [], ◌∷◌, get_or};
 ghost use Rattle.terms.specs.Limits.{fresh_of};
-ghost use Rattle.terms.specs.Told.{number_of, size_of, cause_told, told_cause, told_refusal};
+ghost use Rattle.terms.specs.Told.{number_of, size_of, caused, told_refusal};
 
 // The decoder of a byte text that comes in pieces: what it keeps between two pieces. The limits belong to it.
 #[repr(C)]
@@ -49,25 +49,25 @@ impl Decoder {
     }
 }
 
-// Why elements are damage.
+// Why elements are damage, as the number that a list of damages has: 1 to 4 where a reader tells it.
 #[derive(Clone, Copy, PartialEq, Eq)]
-pub enum Cause {
-    // An element that only goes on with sequences, and none goes on here.
-    Stray = 1,
-    // An element that stands in no sequence.
-    Foreign = 2,
-    // A begun sequence that another element stops.
-    Stopped = 3,
-    // A begun sequence that the end of the text stops.
-    Ended = 4,
-}
+pub struct Cause(pub u32);
 
 impl Cause {
-    // Its number, 1 to 4, as a list of damages has it.
+    // An element that only goes on with sequences, and none goes on here.
+    pub const STRAY: Cause = Cause(1);
+    // An element that stands in no sequence.
+    pub const FOREIGN: Cause = Cause(2);
+    // A begun sequence that another element stops.
+    pub const STOPPED: Cause = Cause(3);
+    // A begun sequence that the end of the text stops.
+    pub const ENDED: Cause = Cause(4);
+
+    // The number.
     pub fn number(self) -> u32
         ensures { result ≡ number_of self }
     {
-        self as u32
+        self.0
     }
 }
 
@@ -98,13 +98,13 @@ impl First {
     // Why it is damaged, if it is.
     #[inline]
     pub fn cause(self) -> Option<Cause>
-        ensures { told_cause result ≡ cause_told self }
+        ensures { result ≡ caused self }
     {
         match self {
             First::Nothing => None,
             First::Whole(_) => None,
             First::Damage(_, cause) => Some(cause),
-            First::Begun(_) => Some(Cause::Ended),
+            First::Begun(_) => Some(Cause::ENDED),
         }
     }
 }

@@ -12,7 +12,6 @@ use Rattle.theory.specs.Table.{stray, stopped, ended, Kind, whole, damage, lone}
 use Rattle.theory.specs.Sequence.{Sequence}
 use Rattle.theory.proofs.SequencesAreWhole.{by_rows, whole-sequence}
 use Rattle.terms.specs.Told.{told_first, look_says, first_says}
-use Rattle.terms.specs.declared.Cause.TheVariants.{Stray, Stopped}
 use Rattle.terms.specs.declared.First.TheVariants.{Whole, Damage, Begun}
 use Rattle.terms.proofs.WalkBySegments.{says-look}
 use Rattle.terms.proofs.PointTold.{Pointed}
@@ -27,7 +26,7 @@ module _ (text : List ℕ) (some-there : 0 < length text) where
   pub reads_whole : (get_or text 0 0 < 0xD800) ⊎ ((0xDFFF < get_or text 0 0) × (get_or text 0 0 ≤ 0xFFFF)) → told_first (Whole 1) ≡ first_says units text
   reads_whole h = says (record { more = 0; tag = whole; sure = true }) (unit-whole (get_or text 0 0) (drop 1 text) h)
 
-  pub reads_second : SecondHalf (get_or text 0 0) → told_first (Damage 1 Stray) ≡ first_says units text
+  pub reads_second : SecondHalf (get_or text 0 0) → told_first (Damage 1 (record { 0 = stray })) ≡ first_says units text
   reads_second h = says (lone stray) (second-alone (get_or text 0 0) (drop 1 text) h)
 
   -- a first half: what follows decides
@@ -37,7 +36,7 @@ module _ (text : List ℕ) (some-there : 0 < length text) where
         let n : length text ≤ 1 = omega arith in
         says (record { more = 0; tag = damage ended; sure = false }) (rw (drop_of_length-le text n) (first_ended (get_or text 0 0) h))
 
-    pub reads-stopped : 1 < length text → (SecondHalf (get_or text 1 0) → ⊥) → told_first (Damage 1 Stopped) ≡ first_says units text
+    pub reads-stopped : 1 < length text → (SecondHalf (get_or text 1 0) → ⊥) → told_first (Damage 1 (record { 0 = stopped })) ≡ first_says units text
     reads-stopped e o = says (lone stopped) (rw (drop-cons text 1 0 e) (first-stopped (get_or text 0 0) (get_or text 1 0) (drop 2 text) h o))
 
     pub reads-pair : 1 < length text → SecondHalf (get_or text 1 0) → told_first (Whole 2) ≡ first_says units text

@@ -26,17 +26,17 @@ pub fn segment(text: &[u16]) -> First
         return First::Whole(1);
     }
     if 0xDBFF < x {
-        return First::Damage(1, Cause::Stray);
+        return First::Damage(1, Cause::STRAY);
     }
     if text.len() < 2 {
         return First::Begun(1);
     }
     let y = text[1];
     if y < 0xDC00 {
-        return First::Damage(1, Cause::Stopped);
+        return First::Damage(1, Cause::STOPPED);
     }
     if 0xDFFF < y {
-        return First::Damage(1, Cause::Stopped);
+        return First::Damage(1, Cause::STOPPED);
     }
     First::Whole(2)
 }

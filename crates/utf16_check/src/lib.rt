@@ -68,7 +68,7 @@ pub fn check(text: &[u16]) -> Result<(), Refusal>
             First::Nothing => return Ok(()),
             First::Whole(n) => at += n,
             First::Damage(n, cause) => return Err(Refusal::damaged(at, n, cause)),
-            First::Begun(n) => return Err(Refusal::damaged(at, n, Cause::Ended)),
+            First::Begun(n) => return Err(Refusal::damaged(at, n, Cause::ENDED)),
         }
     }
 }

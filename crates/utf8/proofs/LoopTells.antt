@@ -9,11 +9,10 @@ use lib.Seq.{drop-cons}
 use native.Mathlib.Numerals.{add-one}
 use native.Mathlib.Omega.{arith}
 use Rattle.theory.specs.Reader.{Look}
-use Rattle.theory.specs.Table.{within, Kind, is_damage, cause_of, want, wanted_behind}
+use Rattle.theory.specs.Table.{stopped, within, Kind, is_damage, cause_of, want, wanted_behind}
 use Rattle.terms.specs.Told.{told_first, bit, look_says, first_says}
 use Rattle.terms.specs.Told.{number_of}
 use Rattle.terms.specs.declared.Cause.{Cause}
-use Rattle.terms.specs.declared.Cause.TheVariants.{Stopped}
 use Rattle.terms.specs.declared.First.TheVariants.{Whole, Damage, Begun}
 use Rattle.terms.proofs.WalkBySegments.{says-look}
 use Rattle.utf8.specs.Classes.{class_in, rows_of_classes, lone_class, by_classes}
@@ -74,7 +73,7 @@ module _ (table text : List ℕ) where
 
         -- another byte stops it
         pub follow-stopped : n < length text → within (wanted_next lead) (class (get_or text n 0)) ≡ false
-            → told_first (Damage n Stopped) ≡ look_says (left more first 1)
+            → told_first (Damage n (record { 0 = stopped })) ≡ look_says (left more first 1)
         follow-stopped k e = rw (same_here, drop-cons text n 0 k, e, add-zero)
 
         -- the byte is as wanted

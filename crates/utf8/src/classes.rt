@@ -28,9 +28,9 @@ fn lead_of(class: u8) -> Lead
 {
     match class {
         0 => Lead::Begins(0),
-        1 => Lead::Alone(Cause::Stray),
-        2 => Lead::Alone(Cause::Stray),
-        3 => Lead::Alone(Cause::Stray),
+        1 => Lead::Alone(Cause::STRAY),
+        2 => Lead::Alone(Cause::STRAY),
+        3 => Lead::Alone(Cause::STRAY),
         5 => Lead::Begins(1),
         6 => Lead::Begins(2),
         7 => Lead::Begins(2),
@@ -38,7 +38,7 @@ fn lead_of(class: u8) -> Lead
         9 => Lead::Begins(3),
         10 => Lead::Begins(3),
         11 => Lead::Begins(3),
-        _ => Lead::Alone(Cause::Foreign),
+        _ => Lead::Alone(Cause::FOREIGN),
     }
 }
 
@@ -89,7 +89,7 @@ fn follow(text: &[u8], classes: &[u8; 256], class: u8, more: usize) -> First
             return First::Begun(n);
         }
         if !goes_on(lead, class_in(classes, text[n])) {
-            return First::Damage(n, Cause::Stopped);
+            return First::Damage(n, Cause::STOPPED);
         }
         lead = 5;
         n += 1;

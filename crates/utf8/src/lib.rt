@@ -62,8 +62,8 @@ fn number_of(text: &[u8], n: usize) -> u32
     ((a % 0x08 * 0x40 + b) * 0x40 + c) * 0x40 + d
 }
 
-// The code point that stands first in a text, if there is one, by any table of classes.
-#[inline]
+// The code point that stands first in a text, if there is one, by any table of classes. Where it is called, its answer goes through memory.
+#[inline(always)]
 pub fn point_by(text: &[u8], classes: &[u8; 256]) -> Option<Point>
     ensures { result ≡ first_point (utf8_by classes.now) text.now }
 {

@@ -7,14 +7,14 @@ use lib.ListN.{length, take, drop, length-append, length-drop, take-append-drop}
 use lib.Seq.{take-append-add, drop-append-add, take-append_seam, drop-append_seam, length-take-le}
 use native.Mathlib.Omega.{arith}
 use Rattle.theory.specs.Reader.{Look, Segment, cut, parts}
-use Rattle.theory.specs.Table.{Kind, whole, damage, is_damage}
+use Rattle.std.proofs.lemmas.Option.{none-some}
+use Rattle.std.specs.Prelude.{Option, None, Some}
+use Rattle.theory.specs.Table.{ended, Kind, whole, damage, is_damage}
 use Rattle.theory.specs.Tally.{total, size, entries}
 use Rattle.theory.proofs.Cases.{All}
 use Rattle.theory.proofs.Divisions.{before, cut-nil, cut-cons, cut-size}
 use Rattle.theory.proofs.WholeRuns.{Undamaged, run-parts}
-use Rattle.terms.specs.Told.{number_of, told_first, size_of, cause_told, first_says}
-use Rattle.terms.specs.declared.Cause.{Cause}
-use Rattle.terms.specs.declared.Cause.TheVariants.{Stray, Foreign, Stopped, Ended}
+use Rattle.terms.specs.Told.{told_first, size_of, caused, cause_told, first_says}
 use Rattle.terms.specs.declared.First.{First}
 use Rattle.terms.specs.declared.First.TheVariants.{Nothing, Whole, Damage, Begun}
 use Rattle.terms.proofs.WalkBySegments.{part_is, seen, Turn, turn-damage, turn-begun, turn_end, Clean}
@@ -114,14 +114,8 @@ stop-turn text n s l (Damage k c) told = turn-damage bytes_division text n (omeg
 stop-turn text n s l (Begun k) told = turn-begun bytes_division text n (omega arith) (Begun k) told k refl
 
 -- so it has a cause
-some_cause : (c : Cause) → number_of c ≡ 0 → ⊥
-some_cause Stray e = omega (arith, e)
-some_cause Foreign e = omega (arith, e)
-some_cause Stopped e = omega (arith, e)
-some_cause Ended e = omega (arith, e)
-
 pub stop-caused : (text : List ℕ) (n : ℕ) → Stops (drop n text) → n < length text → (q : First)
-    → told_first q ≡ first_says bytes (take (length text - n) (drop n text)) → cause_told q ≡ 0 → ⊥
+    → told_first q ≡ first_says bytes (take (length text - n) (drop n text)) → caused q ≡ None → ⊥
 stop-caused text n s l Nothing told e =
     let z : length (drop n text) ≡ 0 = ap length (turn_end bytes_division text n (omega arith) Nothing told refl) in
     omega (arith, length-drop n text)
@@ -129,5 +123,5 @@ stop-caused text n s l (Whole k) told e =
     let v = seen bytes (drop n text) k whole true (rw part_is at told) in
     let t : is_damage (bytes v.head v.tail).tag ≡ true = subst Stops v.text-is s in
     true≢false (sym t ∙ ap is_damage v.kind-is)
-stop-caused text n s l (Damage k c) told e = some_cause c e
-stop-caused text n s l (Begun k) told e = omega (arith, e)
+stop-caused text n s l (Damage k c) told e = none-some c (sym e)
+stop-caused text n s l (Begun k) told e = none-some (record { 0 = ended }) (sym e)

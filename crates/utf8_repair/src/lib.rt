@@ -74,7 +74,7 @@ fn pass(seg: &[u8], out: &mut [u8]) -> usize
     requires { length seg.now ≤ length out.old }
     ensures { Puts seg.now out.old out.new result }
 {
-    out[..seg.len()].copy_from_slice(seg);
+    copy::copy(seg, out);
     seg.len()
 }
 

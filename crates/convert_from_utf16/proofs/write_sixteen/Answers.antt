@@ -29,7 +29,13 @@ returns-in-Some c =
     block-passes-to t (sixteen room t) (sixteen-is t room).0 (sixteen-is t room).1 _ _ p.counts.read_is p.counts.places_is c.in-Some.ensures.some
     a.out.now c.put_sixteen.new.out p.output
 
+-- a part that was read and written stands behind what was there before
+stands : (c : In_default) (read places : ℕ) (out : List ℕ) → PassesTo utf16 utf8 c.args.text.now c.put_sixteen.new.out out read places
+    → PassesTo utf16 utf8 c.args.text.now c.args.out.now out read places
+stands c read places out = subst (λ (before : List ℕ). PassesTo utf16 utf8 c.args.text.now before out read places) (untouched c)
+
+pub returns-then-text-lt128 : goal.returns-then-text-lt128
+returns-then-text-lt128 c = stands (goal.at.returns-then-text-lt128 c).In_default _ _ _ c.write_segments.ensures
+
 pub returns : goal.returns
-returns c =
-    let a = c.args in
-    subst (λ (out : List ℕ). PassesTo utf16 utf8 a.text.now out c.write_segments.new.out c.write_segments.result.read c.write_segments.result.places) (untouched (goal.at.returns c).In_default) c.write_segments.ensures
+returns c = stands (goal.at.returns c).In_default _ _ _ c.write_segments-2.ensures

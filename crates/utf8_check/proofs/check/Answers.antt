@@ -5,6 +5,7 @@ use lib.ListN.{drop_of_length-le}
 use native.Mathlib.Omega.{arith}
 use Rattle.terms.specs.Strict.{damaged}
 use Rattle.terms.specs.Told.{told_cause}
+use Rattle.terms.proofs.ToldBack.{caused-told}
 use Rattle.terms.proofs.WalkBySegments.{Clean, check-over, check-end, check-damage}
 use Rattle.utf8.specs.Bytes.{bytes}
 use Rattle.utf8_check.proofs.RunDivides.{run-clean, stop-turn, stop-caused}
@@ -37,7 +38,7 @@ returns-in-Some c =
     let n = c.whole_run-start.result in
     let text = c.args.text.now in
     c.damaged.ensures
-    ∙ rw (c.size.ensures, ap told_cause (sym c.in-Some.is) ∙ c.cause.ensures)
+    ∙ rw (c.size.ensures, ap told_cause (sym c.in-Some.is ∙ c.cause.ensures) ∙ caused-told c.segment-damage.result)
     (check-damage text n (clean (goal.at.returns-in-Some c).After-whole_run-start) damaged (0 ∷ []) c.if-text-gt-LIMIT.false _ _
     (stop-turn text n (stops_at text n c.whole_run-start.ensures) (omega (arith, (clean (goal.at.returns-in-Some c).After-whole_run-start).inside, c.if-start-text.false)) c.segment-damage.result c.segment-damage.ensures))
 
@@ -47,4 +48,4 @@ returns-in-None c =
     let text = c.args.text.now in
     absurd (stop-caused text n (stops_at text n c.whole_run-start.ensures)
     (omega (arith, (clean (goal.at.returns-in-None c).After-whole_run-start).inside, c.if-start-text.false))
-    c.segment-damage.result c.segment-damage.ensures (sym c.cause.ensures ∙ ap told_cause c.in-None.is))
+    c.segment-damage.result c.segment-damage.ensures (sym c.cause.ensures ∙ c.in-None.is))
